@@ -17,5 +17,5 @@ abbrev pub wants_bench : List (List ℕ) → List (List ℕ) → Bool
 wants_bench [] files = false
 wants_bench (name ∷ options) files =
     if is_word name (codes "improve") then
-        if is_named (codes "--format") options then false else names_bench files
+    if is_named (codes "--format") options then false else names_bench files
     else false

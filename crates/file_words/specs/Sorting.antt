@@ -78,7 +78,7 @@ is_whole next = false
 abbrev pub formatted : Line → Line
 formatted line =
     if wants_bench line.words line.operands then
-        record line { words = line.words ++ codes "--format" ∷ codes "bench" ∷ [] }
+    record line { words = line.words ++ codes "--format" ∷ codes "bench" ∷ [] }
     else line
 
 abbrev pub ended : Line → Option Line
