@@ -58,10 +58,15 @@ pub(crate) fn first_file(words: &[String]) -> Option<&[u8]> {
 
 /// Whether a word ends with a text.
 pub(crate) fn ends_with(word: &[u8], end: &[u8]) -> bool {
-    for start in 0..word.len() {
-        if &word[start..] == end {
+    let mut left = word;
+    for _ in 0..word.len() {
+        if left == end {
             return true;
         }
+        let Some((_, rest)) = left.split_first() else {
+            break;
+        };
+        left = rest;
     }
     false
 }
