@@ -32,7 +32,7 @@ log_fits (Some file) input output =
 abbrev pub fits : Line → Asked → Bool
 fits line asked =
     if nat_le (length line.operands) 1 then
-        if is_some line.certificate then false else log_fits asked.log (first_in line.operands) line.output
+    if is_some line.certificate then false else log_fits asked.log (first_in line.operands) line.output
     else false
 
 -- These words ask for this part, with these files.

@@ -294,7 +294,9 @@ fn push_fault(text: &mut Vec<u8>, command: CommandName, fault: Fault) -> Result<
                 Part::Text(b" name one file"),
             ],
         ),
-        Fault::LogToOutput => text.extend_from_slice(b"--log names a file, and not standard output"),
+        Fault::LogToOutput => text.extend_from_slice(
+            b"--log names a file, and not standard output",
+        ),
         Fault::LogOfInput => text.extend_from_slice(
             b"with --log the certificate is read twice: it has to be a file",
         ),
