@@ -2,6 +2,7 @@
 use Rattle.std.specs.Prelude.{◌==◌, ℕ, List, [], ◌∷◌, ◌++◌, Bool, true, false, Option, None, Some, codes}
 use Rattle.std.specs.Prelude.{if◌then◌else◌}
 use Rattle.command_line.specs.Options.{is_word}
+use Rattle.file_words.specs.Formats.{wants_bench}
 use Rattle.file_words.specs.declared.line.Next.{Next}
 use Rattle.file_words.specs.declared.line.Next.TheVariants.{Word, Value, Output, Certificate, Operand, Nothing}
 
@@ -73,12 +74,20 @@ is_whole Word = true
 is_whole Operand = true
 is_whole next = false
 
+-- A netlist of `improve` is in BENCH if its file's name ends with `.bench` and `--format` isn't named.
+abbrev pub formatted : Line → Line
+formatted line =
+    if wants_bench line.words line.operands then
+    record line { words = line.words ++ codes "--format" ∷ codes "bench" ∷ [] }
+    else line
+
 abbrev pub ended : Line → Option Line
-ended line = if is_whole line.next then Some line else None
+ended line = if is_whole line.next then Some (formatted line) else None
 
 -- The first word is the command's name. None: there is no word, a value is missing, or `-o` or `--certificate` is named
 -- twice.
--- Example: `improve in.blif --cap 4 -o out.blif` has the words `improve --cap 4`.
+-- Example: `improve in.blif --cap 4 -o out.blif` has the words `improve --cap 4`, and with `in.bench` the words
+-- `improve --cap 4 --format bench`.
 unfoldable pub file_line : List (List ℕ) → Option Line
 file_line [] = None
 file_line (name ∷ words) = ended (sorted (first_line name) words)

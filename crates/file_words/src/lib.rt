@@ -3,7 +3,8 @@
 //!
 //! `read_line` sorts the words: what is left without files is a command line as `command_line` reads it, which it
 //! doesn't check. Options are pairs of a name that begins with `-` and a value; `--` ends them; any other word is an
-//! operand, and so is `-`. `specs/Sorting.antt` says the same, word by word.
+//! operand, and so is `-`. `specs/Sorting.antt` says the same, word by word. Where the file of `improve` ends with
+//! `.bench` and no format is named, the words get `--format bench` (`specs/Formats.antt`).
 //!
 //! ```text
 //! let line = read_line(alloc, &words)?;   // of improve in.blif --cap 4 -o out.blif
@@ -13,6 +14,7 @@
 //! ```
 #![tactic(auto)]
 
+mod formats;
 mod line;
 mod sorting;
 

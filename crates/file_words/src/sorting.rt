@@ -6,11 +6,12 @@ ghost use Rattle.command_line.specs.CommandLine.{spelled};
 ghost use Rattle.file_words.specs.Sorting as spec;
 ghost use Rattle.file_words.specs.Lines.{line_value};
 
+use crate::formats::take_format;
 use crate::line::{FileLine, Next};
 use std::alloc::{AllocError, Global};
 
 /// Whether two words are the same.
-fn is_word(word: &[u8], other: &[u8]) -> bool
+pub(crate) fn is_word(word: &[u8], other: &[u8]) -> bool
     ensures { result ≡ spec.is_same word.now other.now }
 {
     word == other
@@ -42,7 +43,11 @@ pub fn is_standard(file: &str) -> bool
 }
 
 /// Appends a copy of a word.
-fn push_word(alloc: Global, words: &mut Vec<String>, word: &str) -> Result<(), AllocError>
+pub(crate) fn push_word(
+    alloc: Global,
+    words: &mut Vec<String>,
+    word: &str,
+) -> Result<(), AllocError>
     ensures { OnOk result (map string_bytes words.new.items ≡ map string_bytes words.old.items ++ word.now ∷ []) }
 {
     words.push(String::from_str(alloc, word)?)?;
@@ -159,7 +164,8 @@ fn is_whole(next: Next) -> bool
 }
 
 /// The words of a command line, sorted; None if there is no word, a value is missing, or `-o` or
-/// `--certificate` is named twice.
+/// `--certificate` is named twice. With a file of `improve` whose name ends with `.bench`, the words get
+/// `--format bench` if they name no format.
 #[tactic(auto, unfolding(crate::specs::Sorting::file_line))]
 pub fn read_line(alloc: Global, words: &Vec<String>) -> Result<Option<FileLine>, AllocError>
     ensures { IfOk result (λ found. option_map line_value found ≡ spec.file_line (spelled words.now)) }
@@ -169,9 +175,9 @@ pub fn read_line(alloc: Global, words: &Vec<String>) -> Result<Option<FileLine>,
     };
     let mut line = first_line(alloc, name.as_str())?;
     take_all(alloc, &mut line, options)?;
-    if is_whole(line.next) {
-        Ok(Some(line))
-    } else {
-        Ok(None)
+    if !is_whole(line.next) {
+        return Ok(None);
     }
+    take_format(alloc, &mut line)?;
+    Ok(Some(line))
 }

@@ -63,6 +63,11 @@ const WRONG: &[(&str, &str)] = &[
          and not 'all' (batsokemi help improve)\n",
     ),
     (
+        "improve --basis all x.bench",
+        "batsokemi: with --format bench the basis has operators of bench alone, \
+         and not 'all' (batsokemi help improve)\n",
+    ),
+    (
         "gen x",
         "batsokemi: gen reads no file, and 'x' is one more (batsokemi help gen)\n",
     ),

@@ -20,6 +20,7 @@ mod options;
 mod pages;
 mod pen;
 mod topics;
+mod values;
 mod wrong;
 
 pub use asking::asked_page;

@@ -204,7 +204,7 @@ const IMPROVE: &[Row] = &[
         value: b"FORMAT",
         allowed: Allowed::Words(&[b"blif", b"bench"]),
         default: Default::Word(b"blif"),
-        says: b"of both netlists",
+        says: b"of both netlists; for a file whose name ends with .bench the default is bench",
     },
     OUTPUT,
 ];

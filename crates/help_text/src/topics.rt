@@ -143,7 +143,8 @@ const BENCH: &[u8] = b"Netlists: BENCH
   name = KEY(name, ..)    KEY is AND, NAND, OR, NOR, XOR, XNOR, NOT, BUFF or BUF
   name = DFF(name)        a latch
 
-The format of the ISCAS benchmark files, read and written by improve --format bench. Keys may be upper or lower
+The format of the ISCAS benchmark files, read and written by improve --format bench, and where the name of the
+file that is read ends with .bench. Keys may be upper or lower
 case, lines may come in any order, and a comment begins with #. tools/blif writes BENCH as BLIF for equiv.
 
   INPUT(a)

@@ -5,6 +5,7 @@ use crate::options::{Allowed, Row, options_of};
 use crate::pages::push_allowed;
 use crate::pen::{Part, push_parts, push_quoted};
 use crate::topics::push_topic_names;
+use crate::values::{ends_with, first_file, has_value, is_option, value_of};
 use op_basis::{BENCH, read_basis};
 use std::alloc::AllocError;
 use text_core::number_up_to;
@@ -65,35 +66,6 @@ fn takes(row: &Row, word: &[u8]) -> bool {
         Allowed::Basis => read_basis(word).is_ok(),
         Allowed::File => true,
     }
-}
-
-/// Whether a word is the name of an option.
-fn is_option(word: &[u8]) -> bool {
-    match word.split_first() {
-        Some((first, rest)) => *first == b'-' && !rest.is_empty(),
-        None => false,
-    }
-}
-
-/// The value of an option among words; None if it isn't named.
-fn value_of<'a>(name: &[u8], words: &'a [String]) -> Option<&'a [u8]> {
-    let mut is_value = false;
-    let mut is_wanted = false;
-    for word in words {
-        let bytes = word.as_bytes();
-        if is_value && is_wanted {
-            return Some(bytes);
-        }
-        if is_value {
-            is_value = false;
-        } else if bytes == b"--".as_slice() {
-            return None;
-        } else {
-            is_value = is_option(bytes);
-            is_wanted = bytes == name;
-        }
-    }
-    None
 }
 
 /// Whether a word has a character `=`.
@@ -157,14 +129,6 @@ fn word_fault(command: CommandName, words: &[String]) -> Option<Fault<'_>> {
     None
 }
 
-/// Whether an option has a value.
-fn has_value(name: &[u8], value: &[u8], words: &[String]) -> bool {
-    match value_of(name, words) {
-        Some(found) => found == value,
-        None => false,
-    }
-}
-
 /// Whether a basis has an operator that BENCH doesn't have.
 fn is_beyond_bench(word: &[u8]) -> bool {
     match read_basis(word) {
@@ -173,12 +137,21 @@ fn is_beyond_bench(word: &[u8]) -> bool {
     }
 }
 
+/// Whether the netlist is in BENCH: by `--format`, or else by the end of the file's name.
+fn is_bench(words: &[String]) -> bool {
+    match value_of(b"--format", words) {
+        Some(format) => format == b"bench".as_slice(),
+        None => match first_file(words) {
+            Some(file) => ends_with(file, b".bench"),
+            None => false,
+        },
+    }
+}
+
 /// What options of `improve` ask of each other.
 fn improve_fault(words: &[String]) -> Option<Fault<'_>> {
     match value_of(b"--basis", words) {
-        Some(basis) if has_value(b"--format", b"bench", words) && is_beyond_bench(basis) => {
-            Some(Fault::NotOfBench(basis))
-        }
+        Some(basis) if is_bench(words) && is_beyond_bench(basis) => Some(Fault::NotOfBench(basis)),
         _ => None,
     }
 }

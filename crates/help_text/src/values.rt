@@ -1,0 +1,72 @@
+//! Values and files among the words after a command.
+
+/// Whether a word is the name of an option.
+pub(crate) fn is_option(word: &[u8]) -> bool {
+    match word.split_first() {
+        Some((first, rest)) => *first == b'-' && !rest.is_empty(),
+        None => false,
+    }
+}
+
+/// The value of an option among words; None if it isn't named.
+pub(crate) fn value_of<'a>(name: &[u8], words: &'a [String]) -> Option<&'a [u8]> {
+    let mut is_value = false;
+    let mut is_wanted = false;
+    for word in words {
+        let bytes = word.as_bytes();
+        if is_value && is_wanted {
+            return Some(bytes);
+        }
+        if is_value {
+            is_value = false;
+        } else if bytes == b"--".as_slice() {
+            return None;
+        } else {
+            is_value = is_option(bytes);
+            is_wanted = bytes == name;
+        }
+    }
+    None
+}
+
+/// Whether an option has a value.
+pub(crate) fn has_value(name: &[u8], value: &[u8], words: &[String]) -> bool {
+    match value_of(name, words) {
+        Some(found) => found == value,
+        None => false,
+    }
+}
+
+/// The first file among words; None if there is none.
+pub(crate) fn first_file(words: &[String]) -> Option<&[u8]> {
+    let mut are_files = false;
+    let mut is_value = false;
+    for word in words {
+        let bytes = word.as_bytes();
+        if is_value {
+            is_value = false;
+        } else if !are_files && bytes == b"--".as_slice() {
+            are_files = true;
+        } else if !are_files && is_option(bytes) {
+            is_value = true;
+        } else {
+            return Some(bytes);
+        }
+    }
+    None
+}
+
+/// Whether a word ends with a text.
+pub(crate) fn ends_with(word: &[u8], end: &[u8]) -> bool {
+    let mut left = word;
+    for _ in 0..word.len() {
+        if left == end {
+            return true;
+        }
+        let Some((_, rest)) = left.split_first() else {
+            break;
+        };
+        left = rest;
+    }
+    false
+}
