@@ -186,6 +186,15 @@ pub(crate) const DEPTHS: &[Entry] = &[
     },
 ];
 
+/// Faults of a part of a certificate that is asked for.
+pub(crate) const PARTS: &[Entry] = &[Entry {
+    name: b"NoSuchPart",
+    place: Place::Nowhere,
+    says: &[Part::Text(
+        b"a size that the certificate has a section of, and a part of it, numbered from 1 on",
+    )],
+}];
+
 /// Faults of lines of logs, after `StepRefused` and the line.
 pub(crate) const STEPS: &[Entry] = &[
     Entry {

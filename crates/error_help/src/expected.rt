@@ -1,7 +1,7 @@
 //! The table of faults: for each one that an error line names, where it is and what was expected there. Its entries
 //! stand in `chain_faults` and `net_faults`.
 
-use crate::chain_faults::{CERTIFICATES, CHAINS, DEPTHS, STEPS, TABLES};
+use crate::chain_faults::{CERTIFICATES, CHAINS, DEPTHS, PARTS, STEPS, TABLES};
 use crate::net_faults::{BENCHES, BLIFS, NETLISTS, PAIRS, WORDS};
 use help_text::Part;
 use net_theory::{MOST_OF_NETLIST, MOST_OF_TWO};
@@ -100,7 +100,7 @@ pub(crate) fn entry_of(subject: Subject, name: &[u8]) -> Option<Entry> {
     let own = match subject {
         Subject::Tables => among(TABLES, name),
         Subject::Question => in_either(TABLES, CHAINS, name),
-        Subject::Certificate => among(CERTIFICATES, name),
+        Subject::Certificate => in_either(CERTIFICATES, PARTS, name),
         Subject::Depth => among(DEPTHS, name),
         Subject::Blif => in_either(BLIFS, NETLISTS, name),
         Subject::Bench => in_either(BENCHES, NETLISTS, name),

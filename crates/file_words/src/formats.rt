@@ -1,5 +1,5 @@
 //! The format of a netlist, by the end of its file's name.
-ghost use Rattle.std.specs.Prelude.{◌≡◌, ◌++◌, ◌∷◌, [], map, codes, OnOk};
+ghost use Rattle.std.specs.Prelude.{◌≡◌, map, OnOk};
 ghost use Rattle.std.specs.String.{string_bytes};
 ghost use Rattle.command_line.specs.CommandLine.{is_named as is_named_of};
 ghost use Rattle.file_words.specs.Formats as spec;

@@ -164,8 +164,8 @@ fn is_whole(next: Next) -> bool
 }
 
 /// The words of a command line, sorted; None if there is no word, a value is missing, or `-o` or
-/// `--certificate` is named twice. With a file of `improve` whose name ends with `.bench`, the words get `--format bench`
-/// if they name no format.
+/// `--certificate` is named twice. With a file of `improve` whose name ends with `.bench`, the words get
+/// `--format bench` if they name no format.
 #[tactic(auto, unfolding(crate::specs::Sorting::file_line))]
 pub fn read_line(alloc: Global, words: &Vec<String>) -> Result<Option<FileLine>, AllocError>
     ensures { IfOk result (λ found. option_map line_value found ≡ spec.file_line (spelled words.now)) }

@@ -35,7 +35,7 @@ fn has_certificate(command: &Command) -> bool
 }
 
 /// Whether a file isn't that of `-o`.
-fn is_apart(file: &String, output: &Option<String>) -> bool
+pub fn is_apart(file: &String, output: &Option<String>) -> bool
     ensures { result ≡ spec.is_apart (string_bytes file.now) (option_map string_bytes output.now) }
 {
     match output {
@@ -96,7 +96,7 @@ fn name_of(file: &String) -> Option<&str>
 }
 
 /// The name of the file that is read; None for standard input.
-pub(crate) fn input_of(line: &FileLine) -> Option<&str>
+pub fn input_of(line: &FileLine) -> Option<&str>
     ensures { text_in result ≡ spec.name_in (spec.first_in (line_value line.now).operands) }
 {
     let Some((file, _)) = line.operands.split_first() else {
@@ -148,7 +148,7 @@ pub(crate) fn pair_budget(command: &Command, line: &FileLine) -> Option<u32>
 }
 
 /// The name of the file that is written; None for standard output.
-pub(crate) fn output_of(line: &FileLine) -> Option<&str>
+pub fn output_of(line: &FileLine) -> Option<&str>
     ensures { text_in result ≡ spec.name_in (line_value line.now).output }
 {
     match &line.output {

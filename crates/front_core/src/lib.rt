@@ -24,5 +24,6 @@ mod pairing;
 mod program;
 mod serving;
 
+pub use asking::{input_of, is_apart, output_of};
 pub use program::Program;
-pub use serving::serve;
+pub use serving::{report_memory, report_usage, serve};

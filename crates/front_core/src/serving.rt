@@ -22,7 +22,7 @@ use port_io::{Sink, Source};
 use std::alloc::Global;
 
 /// Reports words that ask for nothing.
-fn report_usage<N: Sink>(note: &mut N) -> Status
+pub fn report_usage<N: Sink>(note: &mut N) -> Status
     ensures line { Writes (port_state N.written N.faults note.old) (port_state N.written N.faults note.new)
         (error_line usage) }
     ensures status { result ≡ Status.Usage }
@@ -32,7 +32,7 @@ fn report_usage<N: Sink>(note: &mut N) -> Status
 }
 
 /// Reports that memory ran out.
-fn report_memory<N: Sink>(note: &mut N) -> Status
+pub fn report_memory<N: Sink>(note: &mut N) -> Status
     ensures line { Writes (port_state N.written N.faults note.old) (port_state N.written N.faults note.new)
         (error_line memory) }
     ensures status { result ≡ Status.Memory }

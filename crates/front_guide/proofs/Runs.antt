@@ -7,7 +7,8 @@ use Rattle.frame_core.specs.Outside.{PortState, Writes}
 use Rattle.file_io.specs.Files.{Files}
 use Rattle.file_io.specs.Served.{Pass}
 use Rattle.front_core.specs.Asked.{IsNotPlain}
-use Rattle.front_core.specs.Front.{Promises, front_run, Ending, IsEnding}
+use Rattle.front_core.specs.Front.{Promises, front_run}
+use Rattle.front_formula.specs.FormulaRuns.{IsServed}
 use Rattle.front_guide.specs.Words.{has_help_word}
 use Rattle.front_guide.specs.Guided.{IsPageStatus, IsGuided, is_found}
 
@@ -29,26 +30,23 @@ paged promises words files source out out' note page status same other asks writ
 
 -- the command had an answer, and nothing came after it
 pub answered : (promises : Promises) (words : List (List ℕ)) (files : Files) (source out : Pass) (note note' : PortState)
-    (status : Status) →
-    ((ending : Ending) × IsEnding promises (front_run words files source out (note, note') status) ending) →
+    (status : Status) → IsServed promises (front_run words files source out (note, note') status) →
     IsGuided promises (front_run words files source out (note, note') status)
-answered promises words files source out note note' status ended = inr (record {
+answered promises words files source out note note' status served = inr (record {
   between = note';
-  ending = ended.0;
-  ended = ended.1;
+  served = served;
   hinted = inl refl;
 })
 
 -- a text for people came after it
 pub hinted : (promises : Promises) (words : List (List ℕ)) (files : Files) (source out : Pass)
     (note between note' : PortState) (hint : List ℕ) (status : Status) →
-    ((ending : Ending) × IsEnding promises (front_run words files source out (note, between) status) ending) →
+    IsServed promises (front_run words files source out (note, between) status) →
     is_found status ≡ false → Writes between note' hint → between.faults ≤ note'.faults →
     IsGuided promises (front_run words files source out (note, note') status)
-hinted promises words files source out note between note' hint status ended unanswered writes rises = inr (record {
+hinted promises words files source out note between note' hint status served unanswered writes rises = inr (record {
   between = between;
-  ending = ended.0;
-  ended = ended.1;
+  served = served;
   hinted = inr (record { hint = hint; on_note = writes; rises = rises; unanswered = unanswered });
 })
 

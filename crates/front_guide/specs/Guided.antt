@@ -6,7 +6,8 @@ use Rattle.frame_core.specs.declared.status.Status.TheVariants.{Done, Undecided,
 use Rattle.frame_core.specs.Outside.{PortState, Writes}
 use Rattle.file_io.specs.Served.{Pass}
 use Rattle.front_core.specs.Asked.{IsNotPlain}
-use Rattle.front_core.specs.Front.{Promises, FrontRun, front_run, Ending, IsEnding}
+use Rattle.front_core.specs.Front.{Promises, FrontRun, front_run}
+use Rattle.front_formula.specs.FormulaRuns.{IsServed}
 use Rattle.front_guide.specs.Words.{has_help_word}
 
 -- A page was written to the output: all of it, or a call failed.
@@ -44,8 +45,7 @@ pub record IsHinted (between after : PortState) (status : Status) : Type 0 where
 -- The run ended, up to a state of its notes; after it came nothing, or a text for people.
 pub record IsHelped (promises : Promises) (r : FrontRun) : Type 0 where
   pub between : PortState
-  pub ending : Ending
-  pub ended : IsEnding promises (up_to between r) ending
+  pub served : IsServed promises (up_to between r)
   pub hinted : (r.note.1 ≡ between) ⊎ IsHinted between r.note.1 r.status
 
 abbrev pub IsGuided : Promises → FrontRun → Type 0

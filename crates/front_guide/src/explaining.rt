@@ -114,7 +114,7 @@ fn second_of<'a>(
 /// Appends the line of a command over the files of its line, of which these bytes were read again.
 fn push_of_inputs<'a>(
     text: &mut Vec<u8>,
-    command: &Command,
+    subject: Subject,
     files: &'a [String],
     bytes: &'a Option<Vec<u8>>,
     other_bytes: &'a Option<Vec<u8>>,
@@ -128,13 +128,20 @@ fn push_of_inputs<'a>(
     };
     let first = first_of(files, bytes, seen);
     let second = second_of(files, first, other_bytes, seen);
-    push_explained(
-        text,
-        subject_of(command),
-        error_line,
-        &Inputs { first, second },
-    )?;
+    push_explained(text, subject, error_line, &Inputs { first, second })?;
     Ok(())
+}
+
+/// What the command of a line reads; None if its words are none of a command.
+fn line_subject(words: &Vec<String>) -> Option<Subject> {
+    let (name, _) = words.split_first()?;
+    if name.as_bytes() == b"formula".as_slice() {
+        return Some(Subject::Certificate);
+    }
+    match read_words(words) {
+        Ok(command) => Some(subject_of(&command)),
+        Err(_) => None,
+    }
 }
 
 /// Appends the line of words that may name files.
@@ -147,14 +154,14 @@ fn push_of_line<R: Rereads>(
     error_line: &[u8],
     reader: &R,
 ) -> Result<(), AllocError> {
-    let Ok(command) = read_words(&line.words) else {
+    let Some(subject) = line_subject(&line.words) else {
         return Ok(());
     };
     let bytes = file_bytes(alloc, reader, line.operands.first());
     let other_bytes = file_bytes(alloc, reader, line.operands.get(1));
     push_of_inputs(
         text,
-        &command,
+        subject,
         &line.operands,
         &bytes,
         &other_bytes,

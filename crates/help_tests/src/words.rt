@@ -35,7 +35,7 @@ const WRONG: &[(&str, &str)] = &[
     (
         "sinth",
         "batsokemi: there is no command 'sinth'; \
-         there is synth recheck agree improve equiv gen help (batsokemi help)\n",
+         there is synth recheck formula agree improve equiv gen help (batsokemi help)\n",
     ),
     (
         "synth --max",
@@ -66,6 +66,14 @@ const WRONG: &[(&str, &str)] = &[
         "improve --basis all x.bench",
         "batsokemi: with --format bench the basis has operators of bench alone, \
          and not 'all' (batsokemi help improve)\n",
+    ),
+    (
+        "formula --log l -",
+        "batsokemi: with --log the certificate is read twice: it has to be a file (batsokemi help formula)\n",
+    ),
+    (
+        "formula a --log l -o l",
+        "batsokemi: -o and --log name one file (batsokemi help formula)\n",
     ),
     (
         "gen x",

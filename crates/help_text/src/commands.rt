@@ -5,6 +5,7 @@
 pub(crate) enum CommandName {
     Synth,
     Recheck,
+    Formula,
     Agree,
     Improve,
     Equiv,
@@ -15,6 +16,7 @@ pub(crate) enum CommandName {
 pub(crate) const COMMANDS: &[CommandName] = &[
     CommandName::Synth,
     CommandName::Recheck,
+    CommandName::Formula,
     CommandName::Agree,
     CommandName::Improve,
     CommandName::Equiv,
@@ -26,6 +28,7 @@ pub(crate) fn name_of(command: CommandName) -> &'static [u8] {
     match command {
         CommandName::Synth => b"synth",
         CommandName::Recheck => b"recheck",
+        CommandName::Formula => b"formula",
         CommandName::Agree => b"agree",
         CommandName::Improve => b"improve",
         CommandName::Equiv => b"equiv",
@@ -39,6 +42,8 @@ pub(crate) fn purpose_of(command: CommandName) -> &'static [u8] {
         CommandName::Synth =>
             b"truth tables -> a chain with the fewest two-input steps, and a certificate",
         CommandName::Recheck => b"a certificate -> its verdict, if and only if it is valid",
+        CommandName::Formula =>
+            b"a certificate -> the formula of a size in DIMACS, and its log as LRAT",
         CommandName::Agree =>
             b"truth tables and a chain -> whether the chain has every specified value",
         CommandName::Improve =>
@@ -63,7 +68,8 @@ pub(crate) fn command_named(word: &[u8]) -> Option<CommandName> {
 pub(crate) fn most_files(command: CommandName) -> usize {
     match command {
         CommandName::Gen => 0,
-        CommandName::Synth | CommandName::Recheck | CommandName::Agree | CommandName::Improve => 1,
+        CommandName::Synth | CommandName::Recheck | CommandName::Formula => 1,
+        CommandName::Agree | CommandName::Improve => 1,
         CommandName::Equiv => 2,
     }
 }

@@ -6,6 +6,7 @@ use settings::{
     DEFAULT_CONFLICTS, DEFAULT_EFFORT, ImproveSettings, MOST_BLOCKS, MOST_CONFLICTS, MOST_EFFORT,
     MOST_GATES_OF_WINDOW, MOST_ROUNDS, MOST_SEED, MOST_STEPS,
 };
+use text_core::MOST_NUMBER;
 
 /// The values that an option takes.
 #[derive(Clone, Copy)]
@@ -171,6 +172,31 @@ const RECHECK: &[Row] = &[
     OUTPUT,
 ];
 
+const FORMULA: &[Row] = &[
+    Row {
+        name: b"--size",
+        value: b"R",
+        allowed: Allowed::Number(0, MOST_NUMBER),
+        default: Default::Nothing,
+        says: b"the size; without it the last one that has a section",
+    },
+    Row {
+        name: b"--part",
+        value: b"P",
+        allowed: Allowed::Number(0, MOST_NUMBER),
+        default: Default::Number(1),
+        says: b"the part of the size; with all methods but fence there is one",
+    },
+    Row {
+        name: b"--log",
+        value: b"FILE",
+        allowed: Allowed::File,
+        default: Default::Nothing,
+        says: b"the log goes to FILE as plain LRAT; the certificate has to be a file, since it is read again",
+    },
+    OUTPUT,
+];
+
 const AGREE: &[Row] = &[OUTPUT];
 
 const IMPROVE: &[Row] = &[
@@ -269,6 +295,7 @@ pub(crate) fn options_of(command: CommandName) -> &'static [Row] {
     match command {
         CommandName::Synth => SYNTH,
         CommandName::Recheck => RECHECK,
+        CommandName::Formula => FORMULA,
         CommandName::Agree => AGREE,
         CommandName::Improve => IMPROVE,
         CommandName::Equiv => EQUIV,

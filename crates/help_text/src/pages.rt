@@ -193,6 +193,19 @@ Example:
   batsokemi recheck adder.chains
 ";
 
+const FORMULA: &[u8] = b"batsokemi formula [OPTION VALUE].. [CERTIFICATE] [-o FILE]
+
+Writes the formula of a part of a certificate of `synth` in DIMACS, for other programs, and with --log the log
+of the part as plain LRAT; the ids of its hints are the numbers of the clauses. A part is a subproblem of a size:
+one of many with the method fence, and all of it with the others. The certificate is valid, as for `recheck`.
+
+";
+
+const FORMULA_EXAMPLE: &[u8] = b"
+Example: why one step isn't enough
+  batsokemi formula --size 1 --log one.lrat adder.chains -o one.cnf
+";
+
 const AGREE: &[u8] = b"batsokemi agree [FILE]
 
 Reads truth tables, a chain (`chain R`, its steps and outputs) and the line `end`. Writes `agrees`, or
@@ -263,6 +276,7 @@ fn description_of(command: CommandName) -> &'static [u8] {
     match command {
         CommandName::Synth => SYNTH,
         CommandName::Recheck => RECHECK,
+        CommandName::Formula => FORMULA,
         CommandName::Agree => AGREE,
         CommandName::Improve => IMPROVE,
         CommandName::Equiv => EQUIV,
@@ -275,6 +289,7 @@ fn example_of(command: CommandName) -> &'static [u8] {
     match command {
         CommandName::Synth => SYNTH_EXAMPLE,
         CommandName::Recheck => RECHECK_EXAMPLE,
+        CommandName::Formula => FORMULA_EXAMPLE,
         CommandName::Agree => AGREE_EXAMPLE,
         CommandName::Improve => IMPROVE_EXAMPLE,
         CommandName::Equiv => EQUIV_EXAMPLE,

@@ -31,8 +31,12 @@ enum Fault<'a> {
     NotByFence,
     /// `--format bench` with an operator that BENCH doesn't have.
     NotOfBench(&'a [u8]),
-    /// Two options name one file.
-    OneFile,
+    /// `-o` and this option name one file.
+    OneFile(&'static [u8]),
+    /// `--log -`.
+    LogToOutput,
+    /// `--log` without a certificate that is a file.
+    LogOfInput,
 }
 
 /// The option with a name.
@@ -156,11 +160,28 @@ fn improve_fault(words: &[String]) -> Option<Fault<'_>> {
     }
 }
 
-/// Whether `-o` and `--certificate` name one file.
-fn is_one_file(words: &[String]) -> bool {
-    match (value_of(b"-o", words), value_of(b"--certificate", words)) {
-        (Some(output), Some(certificate)) => output == certificate,
+/// Whether `-o` and another option name one file.
+fn is_one_file(name: &[u8], words: &[String]) -> bool {
+    match (value_of(b"-o", words), value_of(name, words)) {
+        (Some(output), Some(file)) => output == file,
         _ => false,
+    }
+}
+
+/// What the file of a log needs.
+fn formula_fault(words: &[String]) -> Option<Fault<'_>> {
+    let Some(log) = value_of(b"--log", words) else {
+        return None;
+    };
+    if log == b"-".as_slice() {
+        return Some(Fault::LogToOutput);
+    }
+    if is_one_file(b"--log", words) {
+        return Some(Fault::OneFile(b"--log"));
+    }
+    match first_file(words) {
+        Some(file) if file != b"-".as_slice() => None,
+        _ => Some(Fault::LogOfInput),
     }
 }
 
@@ -185,13 +206,14 @@ fn gen_fault(words: &[String]) -> Option<Fault<'_>> {
 
 /// What options ask of each other.
 fn fault_together(command: CommandName, words: &[String]) -> Option<Fault<'_>> {
-    if is_one_file(words) {
-        return Some(Fault::OneFile);
+    if is_one_file(b"--certificate", words) {
+        return Some(Fault::OneFile(b"--certificate"));
     }
     match command {
         CommandName::Synth => synth_fault(words),
         CommandName::Improve => improve_fault(words),
         CommandName::Gen => gen_fault(words),
+        CommandName::Formula => formula_fault(words),
         CommandName::Recheck | CommandName::Agree | CommandName::Equiv => None,
     }
 }
@@ -264,7 +286,20 @@ fn push_fault(text: &mut Vec<u8>, command: CommandName, fault: Fault) -> Result<
             word,
             b"",
         ),
-        Fault::OneFile => text.extend_from_slice(b"-o and --certificate name one file"),
+        Fault::OneFile(name) => push_parts(
+            text,
+            &[
+                Part::Text(b"-o and "),
+                Part::Text(name),
+                Part::Text(b" name one file"),
+            ],
+        ),
+        Fault::LogToOutput => text.extend_from_slice(
+            b"--log names a file, and not standard output",
+        ),
+        Fault::LogOfInput => text.extend_from_slice(
+            b"with --log the certificate is read twice: it has to be a file",
+        ),
     }
 }
 

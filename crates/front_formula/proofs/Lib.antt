@@ -1,0 +1,4 @@
+pub mod Counting
+pub mod Drafts
+pub mod Performing
+pub mod Runs

@@ -1,0 +1,3 @@
+pub mod FormulaAsked
+pub mod FormulaRuns
+pub mod Logged
