@@ -1,7 +1,7 @@
 -- The AIGER file that the writer makes of a circuit: AND gates with complements. AND and OR, with complements of their
 -- operands and of their results, are one gate each, and constants, copies and complements none; XOR and XNOR can't be
--- written. There is no such writer yet, and no clause of the reader rests on this file.
-use Rattle.std.specs.Prelude.{ℕ, zero, suc, ◌+◌, ◌-◌, ◌*◌, ◌%◌, Bool, true, false, ◌||◌, ◌==◌, if◌then◌else◌, List, [], ◌∷◌, ◌++◌}
+-- written. No code makes it yet, and no clause of the reader rests on it; `aiger_laws` proves what it lists.
+use Rattle.std.specs.Prelude.{ℕ, zero, suc, ◌+◌, ◌-◌, ◌*◌, ◌%◌, Bool, true, false, ◌||◌, ◌==◌, nat_le, if◌then◌else◌, List, [], ◌∷◌, ◌++◌}
 use Rattle.std.specs.Prelude.{length, map, Option, Some, None, slice_index_or}
 use Rattle.std.proofs.Common.{drop, take}
 use Rattle.net_theory.specs.declared.data.Sig.{Sig}
@@ -45,9 +45,14 @@ pub record Anded : Type 0 where
 abbrev pub next_literal : ℕ → List AigGate → ℕ
 next_literal sources gates = (sources + length gates + 1) * 2
 
+-- the gate of a literal, its greater fanin first
+abbrev pub and_gate : ℕ → ℕ → ℕ → AigGate
+and_gate lit a b = if nat_le b a then record { literal = lit; first = a; second = b }
+    else record { literal = lit; first = b; second = a }
+
 abbrev pub with_and : ℕ → List AigGate → ℕ → ℕ → Anded
 with_and sources gates a b = record {
-  gates = gates ++ record { literal = next_literal sources gates; first = a; second = b } ∷ [];
+  gates = gates ++ and_gate (next_literal sources gates) a b ∷ [];
   literal = next_literal sources gates;
 }
 

@@ -1,0 +1,17 @@
+pub mod MappedValues
+pub mod MappedShape
+pub mod Charges
+pub mod WrittenNames
+pub mod WrittenFile
+pub mod WrittenSignals
+pub mod WrittenValues
+pub mod WrittenDocument
+pub mod WrittenLayers
+pub mod WrittenWell
+pub mod WrittenDescribes
+pub mod WrittenCost
+pub mod TextLaws
+pub mod AndWords
+pub mod KeptNames
+pub mod KeptOutputs
+pub mod TextFormats
