@@ -13,9 +13,9 @@ pub returns-clause-begun : goal.returns-clause-begun
 returns-clause-begun c =
     let w = c.in_ok-spec.spec in
     let s = c.args.settings.now in
-    let h : Header = record { spec = w; basis = s.basis; method = c.method_of.result; conflicts = s.conflicts; max = s.max } in
+    let h : Header = record { spec = w; basis = s.basis; method = c.method_of-method.result; conflicts = s.conflicts; max = s.max } in
     let taken : h ≡ header_of w s =
-    ap (λ (m : Method). record { spec = w; basis = s.basis; method = m; conflicts = s.conflicts; max = s.max }) c.method_of.ensures in
+    ap (λ (m : Method). record { spec = w; basis = s.basis; method = m; conflicts = s.conflicts; max = s.max }) c.method_of-method.ensures in
     let output : 0 < length w.on = search (rules, common_steps) in
     let text : c.write_header.new.out.items ≡ text_of (header_lines h) = search (rules, common_steps) in
     let is_header : IsHeader h = subst (λ (x : Header). IsHeader x) c.new-search.ensures.header c.new-search.ensures.whole.header in
