@@ -6,7 +6,7 @@ ghost use Rattle.command_line.specs.CommandLine.{IsAsked};
 ghost use Rattle.cmd_improve.specs.ImproveReport.{format_of, improve_reply, improve_refusal};
 ghost use Rattle.net_theory.specs.Limits.{most_of_netlist};
 ghost use Rattle.cmd_improve.specs.ImproveReport.{improve_task};
-ghost use Rattle.frame_core.specs.Views.{reply_value, refusal_value};
+ghost use Rattle.frame_core.specs.Views.{reply_value, refusal_value, Judges};
 
 use cmd_lines::{name_net, net_status};
 use command_line::Format;
@@ -22,7 +22,7 @@ use std::marker::PhantomData;
 
 /// A fault of a netlist as a refusal.
 #[tactic(auto, unfolding(frame_core::specs::Views::shown))]
-pub(crate) fn refusal_of(error: NetError) -> Refusal
+fn refusal_of(error: NetError) -> Refusal
     ensures { refusal_value result ≡ improve_refusal error }
 {
     let status = net_status(&error);
@@ -48,7 +48,7 @@ pub fn reply_of(improved: ImprovedText) -> Reply
 
 /// Improves a netlist of a format.
 #[tactic(auto, using(crate::proofs::Improving::reporting))]
-pub(crate) fn improve_text<S: Solver, T: Tell>(
+fn improve_text<S: Solver, T: Tell>(
     alloc: Global,
     format: Format,
     bytes: &[u8],
@@ -64,6 +64,26 @@ pub(crate) fn improve_text<S: Solver, T: Tell>(
     match format {
         Format::Blif => improve_blif::<S, T>(alloc, bytes, *settings, tell),
         Format::Bench => improve_bench::<S, T>(alloc, bytes, *settings, tell),
+    }
+}
+
+/// The reply to a netlist of a format.
+#[tactic(auto, using(crate::proofs::Improving::reporting))]
+pub(crate) fn reply_to<S: Solver, T: Tell>(
+    alloc: Global,
+    format: Format,
+    bytes: &[u8],
+    settings: &ImproveSettings,
+    tell: &T,
+) -> Result<Reply, Stop>
+    requires length { length bytes.now ≤ most_of_netlist }
+    requires settings { IsAsked format settings.now }
+    ensures { Judges (improve_task format settings.now) bytes.now result }
+{
+    match improve_text::<S, T>(alloc, format, bytes, settings, tell) {
+        Ok(improved) => Ok(reply_of(improved)),
+        Err(NetError::Memory) => Err(Stop::NoMemory),
+        Err(error) => Err(Stop::NoAnswer(refusal_of(error))),
     }
 }
 
@@ -89,12 +109,7 @@ impl<'a, S: Solver, T: Tell> Replier for Improve<'a, S, T> {
         Some(MOST_OF_NETLIST)
     }
 
-    #[tactic(auto, using(crate::proofs::Improving::reporting))]
     fn reply(&self, alloc: Global, bytes: &[u8]) -> Result<Reply, Stop> {
-        match improve_text::<S, T>(alloc, self.format, bytes, &self.settings, self.tell) {
-            Ok(improved) => Ok(reply_of(improved)),
-            Err(NetError::Memory) => Err(Stop::NoMemory),
-            Err(error) => Err(Stop::NoAnswer(refusal_of(error))),
-        }
+        reply_to::<S, T>(alloc, self.format, bytes, &self.settings, self.tell)
     }
 }

@@ -5,11 +5,10 @@ ghost use Rattle.command_line.specs.CommandLine.{IsAsked};
 ghost use Rattle.frame_core.specs.Views.{refusal_value};
 ghost use Rattle.cmd_improve.specs.NamedReport.{named_task, empty_refusal};
 
-use crate::improve::{improve_text, refusal_of, reply_of};
+use crate::improve::reply_to;
 use command_line::Format;
 use equiv_run::is_bare;
 use frame_core::{ErrorLine, Refusal, Replier, Reply, Status, Stop};
-use net_core::NetError;
 use net_theory::MOST_OF_NETLIST;
 use progress::Tell;
 use sat_solve::Solver;
@@ -56,10 +55,6 @@ impl<'a, S: Solver, T: Tell> Replier for ImproveNamed<'a, S, T> {
         if says_nothing {
             return Err(Stop::NoAnswer(empty(b"Empty")));
         }
-        match improve_text::<S, T>(alloc, self.format, bytes, &self.settings, self.tell) {
-            Ok(improved) => Ok(reply_of(improved)),
-            Err(NetError::Memory) => Err(Stop::NoMemory),
-            Err(error) => Err(Stop::NoAnswer(refusal_of(error))),
-        }
+        reply_to::<S, T>(alloc, self.format, bytes, &self.settings, self.tell)
     }
 }
