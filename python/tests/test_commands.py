@@ -205,7 +205,7 @@ class Errors(unittest.TestCase):
         for line in table.stdout.splitlines():
             command, option, kind, _ = line.split('|')
             name, *rest = kind.split()
-            if name != 'file':
+            if name != 'file' and command != 'formula':  # which the library hasn't
                 taken = 'basis' if name == 'basis' else tuple(map(int, rest)) if name == 'number' else tuple(rest)
                 said.setdefault(command, {})[option.removeprefix('--')] = taken
         self.assertEqual(options.KINDS, said)
