@@ -26,7 +26,7 @@ mod splitting;
 mod two;
 mod writing;
 
-pub use answer::{CompareError, Compared, EquivOutcome};
+pub use answer::{CompareError, Compared, ComparedTwo, EquivOutcome};
 pub use bare::is_bare;
 pub use blif_core::NetError;
 pub use laws::pairs_have_an_answer_or_a_fault;
