@@ -32,7 +32,8 @@ pub fn compare_two<S: Solver>(
     requires first { length first.now ≤ most_of_two }
     requires second { length second.now ≤ most_of_two }
     requires budget { (1 ≤ conflicts) × (conflicts ≤ most_conflicts) }
-    ensures answer { IfOk result (λ c. IsTwoAnswer conflicts first.now second.now c.compared.text.items c.compared.outcome) }
+    ensures answer { IfOk result (λ c. IsTwoAnswer conflicts first.now second.now c.compared.text.items
+        c.compared.outcome) }
     ensures no_sink { IfOk result (λ c. SaysNoSink first.now c.no_sink) }
     ensures refused { IfErr result (IsTwoRefused first.now second.now) }
 {
