@@ -76,7 +76,7 @@ struct batsokemi_answer {
  *          two blanks in a row or a word that isn't UTF-8 are answered with BATSOKEMI_USAGE.
  * input    what the command reads on standard input, `input_length` bytes, which may be any.
  * output   a buffer of `output_room` bytes for the output.
- * notes    a buffer of `notes_room` bytes for the notes: an error line, or the report of `improve`.
+ * notes    a buffer of `notes_room` bytes for the notes: an error line, or a report of `improve` or of a comparison.
  *
  * An output that is no longer than its buffer stands at the buffer's start, and the bytes after it are as before. One
  * that is longer isn't written at all: the whole buffer is as before, and `answer.output_length` says what room is wanted. A

@@ -50,8 +50,8 @@ fn first_too_long() -> ErrorLine
     )
 }
 
-/// Compares the first text with that of `source`, if the words are those of `equiv`, and writes the answer to `out`, and
-/// to `note` one error line if there is no answer.
+/// Compares the first text with that of `source`, if the words are those of `equiv`, and writes the answer to `out`,
+/// and to `note` a line where there is nothing to compare, or one error line if there is no answer.
 pub fn run_pair<S: Source, O: Sink, N: Sink>(
     alloc: Global,
     words: &Vec<String>,

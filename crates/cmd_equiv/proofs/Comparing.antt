@@ -1,24 +1,25 @@
 -- The result of comparing two texts.
-use Rattle.std.specs.Prelude.{◌≡◌, ℕ, ◌≤◌, List, length, true, false, codes}
+use Rattle.std.specs.Prelude.{◌≡◌, ℕ, ◌≤◌, List, length, Bool, true, false, codes}
 use Rattle.std.proofs.lemmas.Grind.{common_steps}
 use Rattle.equiv_run.specs.declared.answer.EquivOutcome.{EquivOutcome}
 use Rattle.equiv_run.specs.declared.answer.CompareError.{CompareError}
 use Rattle.equiv_run.specs.declared.answer.CompareError.TheVariants.{Memory}
-use Rattle.equiv_run.specs.Two.{is_bare, IsTwoAnswer, IsTwoRefused}
+use Rattle.equiv_run.specs.Two.{is_bare, IsTwoAnswer, SaysNoSink, IsTwoRefused}
 use Rattle.equiv_run.specs.TwoLaws.{two_fault}
 use Rattle.net_theory.specs.Limits.{most_of_netlist}
 use Rattle.frame_core.specs.Reported.{Reply, Refusal}
 use Rattle.frame_core.specs.Task.{HasReply, Refuses}
-use Rattle.cmd_equiv.specs.EquivReport.{equiv_reply, equiv_refusal}
-use Rattle.cmd_equiv.specs.WithReport.{FirstEmpty, SecondEmpty, Faulty, empty_refusal, with_task}
+use Rattle.cmd_equiv.specs.EquivReport.{equiv_refusal}
+use Rattle.cmd_equiv.specs.WithReport.{FirstEmpty, SecondEmpty, Faulty, empty_refusal, with_reply, with_task}
 
-pub compares : (budget : ℕ) (first bytes text : List ℕ) (outcome : EquivOutcome) (reply : Reply) →
+pub compares : (budget : ℕ) (first bytes text : List ℕ) (outcome : EquivOutcome) (no_sink : Bool) (reply : Reply) →
     length bytes ≤ most_of_netlist → is_bare first ≡ false → is_bare bytes ≡ false →
-    IsTwoAnswer budget first bytes text outcome → reply ≡ equiv_reply (record { text = text; outcome = outcome }) →
+    IsTwoAnswer budget first bytes text outcome → SaysNoSink first no_sink →
+    reply ≡ with_reply (record { compared = record { text = text; outcome = outcome }; no_sink = no_sink }) →
     HasReply (with_task budget first) bytes reply
-compares budget first bytes text outcome reply within one other answer is = record {
-  answer = record { text = text; outcome = outcome };
-  has = record { within = within; said = record { one = one; other = other }; answer = answer };
+compares budget first bytes text outcome no_sink reply within one other answer says is = record {
+  answer = record { compared = record { text = text; outcome = outcome }; no_sink = no_sink };
+  has = record { within = within; said = record { one = one; other = other }; answer = answer; no_sink = says };
   is = is;
 }
 

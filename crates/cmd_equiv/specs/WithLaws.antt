@@ -11,8 +11,8 @@ use Rattle.net_theory.specs.Limits.{most_of_netlist}
 use Rattle.frame_core.specs.Task.{IsAnswerStatus, IsRefusalStatus, IsTask}
 use Rattle.frame_core.specs.TaskLaws.{at_once_task}
 use Rattle.cmd_lines.specs.NetLineLaws.{status_kind}
-use Rattle.cmd_equiv.specs.EquivReport.{standing_status, pair_status, Comparison, equiv_reply, equiv_refusal}
-use Rattle.cmd_equiv.specs.WithReport.{WithFault, FirstEmpty, SecondEmpty, Faulty, IsTwoComparison, HasWithFault, MeetsWithFault, empty_refusal, with_refusal, with_task}
+use Rattle.cmd_equiv.specs.EquivReport.{standing_status, pair_status, equiv_refusal}
+use Rattle.cmd_equiv.specs.WithReport.{WithFault, FirstEmpty, SecondEmpty, Faulty, TwoComparison, IsTwoComparison, HasWithFault, MeetsWithFault, empty_refusal, with_reply, with_refusal, with_task}
 
 answer_statuses : (s : EquivOutcome) → IsAnswerStatus (standing_status s)
 answer_statuses standings.Equal = inl refl
@@ -35,10 +35,10 @@ refusal_statuses first second (Faulty e) meets = fault_statuses first second e m
 both : {A : Type 0} (b : Bool) → b ≡ true → b ≡ false → A
 both b is isnt = let e : true ≡ false = sym is ∙ isnt in cc
 
-apart : (budget : ℕ) (first second : List ℕ) (c : Comparison) (fault : WithFault) → IsTwoComparison budget first second c → HasWithFault first second fault → ⊥
+apart : (budget : ℕ) (first second : List ℕ) (c : TwoComparison) (fault : WithFault) → IsTwoComparison budget first second c → HasWithFault first second fault → ⊥
 apart budget first second c FirstEmpty is meets = both (is_bare first) meets is.said.one
 apart budget first second c SecondEmpty is meets = both (is_bare second) meets.other is.said.other
-apart budget first second c (Faulty e) is meets = two_apart budget first second c.text c.outcome e is.answer meets.fault
+apart budget first second c (Faulty e) is meets = two_apart budget first second c.compared.text c.compared.outcome e is.answer meets.fault
 
 one : (first second : List ℕ) (a b : WithFault) → HasWithFault first second a → HasWithFault first second b → with_refusal a ≡ with_refusal b
 one first second FirstEmpty FirstEmpty x y = refl
@@ -53,8 +53,8 @@ one first second (Faulty e) (Faulty f) x y = ap equiv_refusal (two_one first sec
 
 pub with_is_task : (budget : ℕ) (first : List ℕ) → IsTask (with_task budget first)
 with_is_task budget first =
-    at_once_task most_of_netlist Comparison (IsTwoComparison budget first) equiv_reply WithFault (MeetsWithFault first) with_refusal
-    (λ c. answer_statuses c.outcome)
+    at_once_task most_of_netlist TwoComparison (IsTwoComparison budget first) with_reply WithFault (MeetsWithFault first) with_refusal
+    (λ c. answer_statuses c.compared.outcome)
     (λ bytes fault meets. inl (refusal_statuses first bytes fault meets.met))
     (λ bytes c fault has meets. apart budget first bytes c fault has meets.met)
     (λ bytes a b x y. one first bytes a b x.met y.met)

@@ -1,16 +1,17 @@
 //! The comparison of two netlists that each stand in a text of its own, which are never joined.
-ghost use Rattle.std.specs.Prelude.{◌≡◌, ◌≤◌, length};
+ghost use Rattle.std.specs.Prelude.{◌≡◌, ◌≤◌, length, IfOk};
+ghost use Rattle.std.specs.Option.{option_map};
 ghost use Rattle.command_line.specs.CommandLine.{IsBudget};
 ghost use Rattle.net_theory.specs.Limits.{most_of_netlist};
-ghost use Rattle.frame_core.specs.Views.{refusal_value};
-ghost use Rattle.cmd_equiv.specs.WithReport.{with_task, empty_refusal};
+ghost use Rattle.frame_core.specs.Views.{report_text, reply_value, refusal_value};
+ghost use Rattle.cmd_equiv.specs.WithReport.{with_report, with_reply, with_task, empty_refusal};
 
 use crate::equiv::{refusal_of, reply_of};
-use equiv_run::{CompareError, compare_two, is_bare};
-use frame_core::{ErrorLine, Field, Refusal, Replier, Reply, Status, Stop};
+use equiv_run::{CompareError, ComparedTwo, compare_two, is_bare};
+use frame_core::{ErrorLine, Field, Refusal, Replier, Reply, Report, Status, Stop};
 use net_theory::MOST_OF_NETLIST;
 use sat_solve::Solver;
-use std::alloc::Global;
+use std::alloc::{AllocError, Global};
 use std::marker::PhantomData;
 
 /// The refusal of a text that says nothing.
@@ -27,6 +28,33 @@ fn empty(netlist: &'static [u8]) -> Refusal
             Field::Nothing,
         ),
     }
+}
+
+/// The report of a comparison: a line, if neither netlist has an output or a latch.
+#[tactic(auto, unfolding(crate::specs::WithReport::no_sink_line))]
+fn report_of(alloc: Global, no_sink: bool) -> Result<Option<Report>, AllocError>
+    ensures { IfOk result (λ report. option_map report_text report ≡ with_report no_sink) }
+{
+    if !no_sink {
+        return Ok(None);
+    }
+    let mut line = Vec::new(alloc);
+    line.extend_from_slice(
+        b"note: neither netlist has an output or latch: nothing was compared\n",
+    )?;
+    Ok(Some(Report::whole(line)))
+}
+
+/// The reply of a comparison of two texts.
+fn reply_of_two(alloc: Global, two: ComparedTwo) -> Result<Reply, AllocError>
+    ensures { IfOk result (λ reply. reply_value reply ≡ with_reply (record {
+      compared = record { text = two.compared.text.items; outcome = two.compared.outcome };
+      no_sink = two.no_sink;
+    })) }
+{
+    let report = report_of(alloc, two.no_sink)?;
+    let reply = reply_of(two.compared);
+    Ok(Reply { report, ..reply })
 }
 
 /// The comparison of a netlist with that of the source: whether the two have the same outputs and next states,
@@ -61,7 +89,10 @@ impl<'a, S: Solver> Replier for EquivWith<'a, S> {
             return Err(Stop::NoAnswer(empty(b"Second")));
         }
         match compare_two::<S>(alloc, self.first, bytes, self.budget) {
-            Ok(compared) => Ok(reply_of(compared)),
+            Ok(two) => match reply_of_two(alloc, two) {
+                Ok(reply) => Ok(reply),
+                Err(AllocError) => Err(Stop::NoMemory),
+            },
             Err(CompareError::Memory) => Err(Stop::NoMemory),
             Err(error) => Err(Stop::NoAnswer(refusal_of(error))),
         }

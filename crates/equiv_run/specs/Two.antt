@@ -1,7 +1,7 @@
 -- Two netlists, each in a text of its own: the answers and the refusals.
-use Rattle.std.specs.Prelude.{ℕ, ◌&&◌, Bool, true, List, [], ◌∷◌}
+use Rattle.std.specs.Prelude.{◌≡◌, ℕ, ◌&&◌, ◌==◌, Bool, true, List, [], ◌∷◌, length}
 use Rattle.text_core.specs.Lines.{Line, lines_of}
-use Rattle.net_theory.specs.Document.{Document}
+use Rattle.net_theory.specs.Document.{Name, Latch, Document, latches_of}
 use Rattle.net_document.specs.Contents.{is_nothing, content_of}
 use Rattle.net_document.specs.Format.{IsNetlist, HasNetFault}
 use Rattle.blif_core.specs.Blif.{blif_format}
@@ -32,6 +32,17 @@ pub record IsTwoAnswer (budget : ℕ) (first second text : List ℕ) (outcome : 
   pub second_is : Lists second other
   pub interface : ShareInterface one other
   pub reported : IsDocumentAnswer budget one other text outcome
+
+-- neither outputs nor latches
+abbrev pub lacks_sinks : List Name → List Latch → Bool
+lacks_sinks outputs latches = (length outputs == 0) && (length latches == 0)
+
+abbrev pub has_no_sink : Document → Bool
+has_no_sink d = lacks_sinks d.outputs (latches_of d)
+
+-- The answer says whether the netlist of the text has neither an output nor a latch.
+abbrev pub SaysNoSink : List ℕ → Bool → Type 0
+SaysNoSink bytes no_sink = (d : Document) → Lists bytes d → no_sink ≡ has_no_sink d
 
 -- a fault of the second text, while the first has none
 pub record HasLaterFault (first second : List ℕ) (P : List ℕ → Type 0) : Type 0 where

@@ -1,7 +1,7 @@
 -- Two texts that are compared have an answer or at most one fault.
-use Rattle.std.specs.Prelude.{◌≡◌, ℕ, List, Result, Ok, Err, IsErrAnd, IfErr, refl}
-use Rattle.std.proofs.Common.{ap, sym, subst}
-use Rattle.net_theory.specs.Document.{Document}
+use Rattle.std.specs.Prelude.{◌≡◌, ℕ, List, Bool, Result, Ok, Err, IsErrAnd, IfErr, refl}
+use Rattle.std.proofs.Common.{ap, sym, ◌∙◌, subst}
+use Rattle.net_theory.specs.Document.{Name, Latch, Document, latches_of}
 use Rattle.net_theory.specs.Circuit.{Circuit}
 use Rattle.net_core.specs.declared.error.NetError.{NetError}
 use Rattle.net_document.specs.Format.{IsNetlist, IsCircuitOfText, HasNetFault}
@@ -11,11 +11,11 @@ use Rattle.blif_core.specs.Blif.{blif_format}
 use Rattle.equiv_run.specs.declared.answer.EquivOutcome.{EquivOutcome}
 use Rattle.equiv_run.specs.declared.answer.CompareError.{CompareError}
 use Rattle.equiv_run.specs.declared.answer.CompareError.TheVariants.{NoSecond, First, Second, DifferentInterface, Memory}
-use Rattle.equiv_run.specs.declared.answer.Compared.{Compared}
+use Rattle.equiv_run.specs.declared.answer.ComparedTwo.{ComparedTwo}
 use Rattle.equiv_run.specs.Pairs.{Lists, ShareInterface}
 use Rattle.equiv_run.specs.PairLaws.{shared, have_same, lists_of, answered_of, interface_of, lists_one, netlist_listed}
 use Rattle.equiv_run.specs.CircuitAnswers.{IsCircuitAnswer, IsOther, IsFirstRefused, IsSecondRefused}
-use Rattle.equiv_run.specs.Two.{IsTwoAnswer, DifferInInterface, HasTwoFault, IsTwoRefused}
+use Rattle.equiv_run.specs.Two.{lacks_sinks, IsTwoAnswer, SaysNoSink, DifferInInterface, HasTwoFault, IsTwoRefused}
 
 -- ---- the answers
 
@@ -30,6 +30,16 @@ two_answer budget first second c k text outcome of_c of_k reported = record {
   interface = shared of_c.listed.document of_k.listed.document c k of_c.circuit.describes of_k.circuit.describes (interface_of budget c k text outcome reported);
   reported = answered_of budget of_c.listed.document of_k.listed.document c k text outcome of_c.circuit of_k.circuit reported;
 }
+
+-- outputs and latches of the circuit are those of the text's document
+pub says_no_sink : (bytes : List ℕ) (c : Circuit) (no_sink : Bool) → IsCircuitOfText blif_format bytes c →
+    no_sink ≡ lacks_sinks c.outputs c.latches → SaysNoSink bytes no_sink
+says_no_sink bytes c no_sink of is d lists =
+    let e = of.listed.document in
+    let one : d ≡ e = lists_one bytes d e lists (lists_of bytes c of) in
+    is ∙ ap (λ (names : List Name). lacks_sinks names c.latches) (sym of.circuit.describes.outputs)
+    ∙ ap (λ (ls : List Latch). lacks_sinks e.outputs ls) (sym of.circuit.describes.latches)
+    ∙ ap (λ (x : Document). lacks_sinks x.outputs (latches_of x)) (sym one)
 
 -- ---- the refusals
 
@@ -66,21 +76,21 @@ other_refused first second c k DifferentInterface of_c of_k other = record {
 other_refused first second c k Memory of_c of_k other = tt
 
 -- an error that is passed on
-passed : (P : CompareError → Type 0) (r : Result Compared CompareError) (e : CompareError) → IsErrAnd r (λ d. d ≡ e) →
+passed : (P : CompareError → Type 0) (r : Result ComparedTwo CompareError) (e : CompareError) → IsErrAnd r (λ d. d ≡ e) →
     P e → IfErr r P
 passed P (Ok x) e is holds = tt
 passed P (Err d) e is holds = subst P (sym is) holds
 
-pub first_passed : (first second : List ℕ) (r : Result Compared CompareError) (e : CompareError) →
+pub first_passed : (first second : List ℕ) (r : Result ComparedTwo CompareError) (e : CompareError) →
     IsErrAnd r (λ d. d ≡ e) → IsFirstRefused first e → IfErr r (IsTwoRefused first second)
 first_passed first second r e is refused = passed (IsTwoRefused first second) r e is (first_refused first second e refused)
 
-pub second_passed : (first second : List ℕ) (c : Circuit) (r : Result Compared CompareError) (e : CompareError) →
+pub second_passed : (first second : List ℕ) (c : Circuit) (r : Result ComparedTwo CompareError) (e : CompareError) →
     IsErrAnd r (λ d. d ≡ e) → IsCircuitOfText blif_format first c → IsSecondRefused second e →
     IfErr r (IsTwoRefused first second)
 second_passed first second c r e is of refused = passed (IsTwoRefused first second) r e is (second_refused first second c e of refused)
 
-pub other_passed : (first second : List ℕ) (c k : Circuit) (r : Result Compared CompareError) (e : CompareError) →
+pub other_passed : (first second : List ℕ) (c k : Circuit) (r : Result ComparedTwo CompareError) (e : CompareError) →
     IsErrAnd r (λ d. d ≡ e) → IsCircuitOfText blif_format first c → IsCircuitOfText blif_format second k →
     IsOther c k e → IfErr r (IsTwoRefused first second)
 other_passed first second c k r e is of_c of_k other = passed (IsTwoRefused first second) r e is (other_refused first second c k e of_c of_k other)

@@ -23,6 +23,15 @@ pub struct Compared {
     pub outcome: EquivOutcome,
 }
 
+/// The comparison of two netlists that each stand in a text of its own.
+#[derive(Drop)]
+pub struct ComparedTwo {
+    /// The result.
+    pub compared: Compared,
+    /// Whether neither netlist has an output or a latch, so that nothing was compared.
+    pub no_sink: bool,
+}
+
 /// Why two netlists weren't compared.
 #[derive(Drop)]
 pub enum CompareError {

@@ -1,6 +1,6 @@
 //! Equivalence of two BLIF netlists that stand one after the other in one text, or each in a text of its own: where
-//! the first ends, how they compare, and the text of the answer. The crate rests on `blif_core` for reading and on `equiv_core` for the
-//! comparison.
+//! the first ends, how they compare, and the text of the answer. The crate rests on `blif_core` for reading and on
+//! `equiv_core` for the comparison.
 //!
 //! The theorem is that of `compare_texts`: `equal` is answered only for equivalent netlists, with lines that
 //! refute the miter of their nets; `differ` only with values of the sources under which an output or a next state
@@ -26,7 +26,7 @@ mod splitting;
 mod two;
 mod writing;
 
-pub use answer::{CompareError, Compared, EquivOutcome};
+pub use answer::{CompareError, Compared, ComparedTwo, EquivOutcome};
 pub use bare::is_bare;
 pub use blif_core::NetError;
 pub use laws::pairs_have_an_answer_or_a_fault;

@@ -1,5 +1,5 @@
 use Rattle.equiv_run.specs.SmallLaws.{small_circuit}
-use Rattle.equiv_run.specs.TwoLaws.{two_answer, first_passed, second_passed, other_passed}
+use Rattle.equiv_run.specs.TwoLaws.{two_answer, says_no_sink, first_passed, second_passed, other_passed}
 use Rattle.equiv_run.proofs.two.compare_two.Goals as goal
 
 pub compare_circuits-requires-clause-small : goal.compare_circuits-requires-clause-small
@@ -12,6 +12,10 @@ pub returns-clause-answer : goal.returns-clause-answer
 returns-clause-answer g c =
     two_answer c.args.conflicts c.args.first.now c.args.second.now c.in_ok-one.one c.in_ok-other.other _ _
     c.in_ok-one.ensures.circuit c.in_ok-other.ensures.circuit c.in_ok-compared.ensures.reported
+
+pub returns-clause-no_sink : goal.returns-clause-no_sink
+returns-clause-no_sink g c =
+    says_no_sink c.args.first.now c.in_ok-one.one _ c.in_ok-one.ensures.circuit c.lacks_sinks-no_sink.ensures
 
 pub returns-in_err-one-clause-refused : goal.returns-in_err-one-clause-refused
 returns-in_err-one-clause-refused g c =
