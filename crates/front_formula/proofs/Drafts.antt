@@ -37,18 +37,18 @@ no_log name reason answers logs old new source out note note' status fails write
   refl,
 )
 
-pub logged : (name : List ℕ) (answers logs : Does) (old created answered logged new : FilesState)
+pub logged : (name : List ℕ) (answers logs : Does) (old created answered after_logs new : FilesState)
     (source middle source' : PortState) (out : Pass) (draft draft' note between later note' : PortState)
     (first ended status : Status) →
     IsUnchanged old created → IsEmpty draft.bytes → answers (created, answered) (source, middle) out (note, between) first →
-    IsAfter first logs (answered, logged) (middle, source') (draft, draft') (between, later) ended →
-    Settles name ended draft'.bytes (logged, new) (later, note') status →
+    IsAfter first logs (answered, after_logs) (middle, source') (draft, draft') (between, later) ended →
+    Settles name ended draft'.bytes (after_logs, new) (later, note') status →
     IsLogged (Some name) answers logs (old, new) (source, source') out (note, note') status
-logged name answers logs old created answered logged new source middle source' out draft draft' note between later note' first ended status unchanged empty answer log settles =
+logged name answers logs old created answered after_logs new source middle source' out draft draft' note between later note' first ended status unchanged empty answer log settles =
     inr (record {
       created = created;
       answered = answered;
-      logged = logged;
+      logged = after_logs;
       draft = (draft, draft');
       middle = middle;
       between = between;

@@ -27,11 +27,11 @@ use Rattle.front_formula.specs.Logged.{IsLogged}
 
 -- ---- no part
 
+some_same : {T : Type 0} (a b : T) → Some a ≡ Some b → a ≡ b
+some_same a b e = cc
+
 one : {T : Type 0} (o : Option T) (a b : T) → o ≡ Some a → o ≡ Some b → a ≡ b
 one o a b x y = some_same a b (sym x ∙ y)
-  where
-    some_same : (c d : _) → Some c ≡ Some d → c ≡ d
-    some_same c d e = cc
 
 none_some : {T : Type 0} (o : Option T) (a : T) → o ≡ None → o ≡ Some a → ⊥
 none_some o a x y = let e : None ≡ Some a = sym x ∙ y in cc
@@ -113,26 +113,29 @@ part_served line found own files source out note status e is fitting written wor
 
 pub ruleset line_runs = (common_steps, line_no_memory, asks_nothing, unfit_files, part_served)
 
--- the outputs by their names, and the input
-pub part_written : (line : Line) (asked : Asked) (part : ℕ) (input output log : Option (List ℕ)) (files : Files)
-    (source out note : Pass) (status : Status) → part ≡ part_or_first asked.part →
+-- the part, and the files by their names
+pub part_written : (line : Line) (asked : Asked) (size : Option ℕ) (part : ℕ) (input output log : Option (List ℕ))
+    (files : Files) (source out note : Pass) (status : Status) → size ≡ asked.size → part ≡ part_or_first asked.part →
     input ≡ name_in (first_in line.operands) → output ≡ name_in line.output → log ≡ asked.log →
     IsDelivered output (IsLogged log
-    (IsRead input (IsApart (Performs (formula_task asked.size part))))
-    (IsRead input (IsApart (Performs (log_task asked.size part))))) files source out note status →
+    (IsRead input (IsApart (Performs (formula_task size part))))
+    (IsRead input (IsApart (Performs (log_task size part))))) files source out note status →
     (words : List (List ℕ)) → IsPartWritten line asked (front_run words files source out note status)
-part_written line asked part input output log files source out note status p i o l delivered words =
-    subst (λ (x : ℕ). IsDelivered (name_in line.output) (IsLogged asked.log
-    (reads_line line (formula_task asked.size x)) (reads_line line (log_task asked.size x))) files source out note status) p
+part_written line asked size part input output log files source out note status s p i o l delivered words =
+    subst (λ (x : Option ℕ). IsDelivered (name_in line.output) (IsLogged asked.log
+    (reads_line line (formula_task x (part_or_first asked.part)))
+    (reads_line line (log_task x (part_or_first asked.part)))) files source out note status) s
+    (subst (λ (x : ℕ). IsDelivered (name_in line.output) (IsLogged asked.log
+    (reads_line line (formula_task size x)) (reads_line line (log_task size x))) files source out note status) p
     (subst (λ (x : Option (List ℕ)). IsDelivered (name_in line.output) (IsLogged asked.log
-    (IsRead x (IsApart (Performs (formula_task asked.size part))))
-    (IsRead x (IsApart (Performs (log_task asked.size part))))) files source out note status) i
+    (IsRead x (IsApart (Performs (formula_task size part))))
+    (IsRead x (IsApart (Performs (log_task size part))))) files source out note status) i
     (subst (λ (x : Option (List ℕ)). IsDelivered x (IsLogged asked.log
-    (IsRead input (IsApart (Performs (formula_task asked.size part))))
-    (IsRead input (IsApart (Performs (log_task asked.size part))))) files source out note status) o
+    (IsRead input (IsApart (Performs (formula_task size part))))
+    (IsRead input (IsApart (Performs (log_task size part))))) files source out note status) o
     (subst (λ (x : Option (List ℕ)). IsDelivered output (IsLogged x
-    (IsRead input (IsApart (Performs (formula_task asked.size part))))
-    (IsRead input (IsApart (Performs (log_task asked.size part))))) files source out note status) l delivered)))
+    (IsRead input (IsApart (Performs (formula_task size part))))
+    (IsRead input (IsApart (Performs (log_task size part))))) files source out note status) l delivered))))
 
 pub ruleset parts = (common_steps, part_written)
 

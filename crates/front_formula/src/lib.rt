@@ -11,7 +11,7 @@
 //! read. Words that ask for no part are a usage error.
 //!
 //! ```text
-//! let status = serve::<Strict, ..>(alloc, &words, &mut outside, &mut source, &mut out, &mut note);
+//! let status = serve(alloc, &program, &words, &mut outside, &mut source, &mut out, &mut note);
 //! ```
 #![tactic(auto)]
 

@@ -118,13 +118,14 @@ fn serve_formula<W: Outside, S: Source, O: Sink, N: Sink>(
 #[tactic(auto, using(crate::proofs::Runs::runs))]
 pub fn serve<P: Program, W: Outside, S: Source, O: Sink, N: Sink>(
     alloc: Global,
+    program: &P,
     words: &Vec<String>,
     outside: &mut W,
     source: &mut S,
     out: &mut O,
     note: &mut N,
 ) -> Status
-    ensures { IsServed (promised_by P.keeps P.compares) (front_run (spelled words.now)
+    ensures { IsServed (promised_by P.keeps P.keeps_named P.compares) (front_run (spelled words.now)
         (files_before_after W.holds W.faults outside.old outside.new)
         (before_after S.left S.faults source.old source.new)
         (before_after O.written O.faults out.old out.new)
@@ -134,5 +135,5 @@ pub fn serve<P: Program, W: Outside, S: Source, O: Sink, N: Sink>(
     if names_formula(words) {
         return serve_formula(alloc, words, outside, source, out, note);
     }
-    front_core::serve::<P, W, S, O, N>(alloc, words, outside, source, out, note)
+    front_core::serve::<P, W, S, O, N>(alloc, program, words, outside, source, out, note)
 }
