@@ -1,5 +1,4 @@
 //! The front for the program of `chain_app`.
-ghost use Rattle.std.specs.Prelude.{◌≡◌};
 ghost use Rattle.command_line.specs.CommandLine.{spelled};
 ghost use Rattle.frame_core.specs.Run.{before_after};
 ghost use Rattle.chain_app.specs.KeepsPromises.{KeepsPromises};
