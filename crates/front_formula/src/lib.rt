@@ -1,7 +1,7 @@
 //! The front with the command `formula`: a part of a certificate in the formats of other programs, over files.
 //!
-//! `formula [--size R] [--part P] [--log FILE] [CERTIFICATE] [-o FILE]` is a command of the front alone. `serve` does it
-//! where the first word is `formula`, and hands all other words to `front_core::serve`. Both parts of the work are
+//! `formula [--size R] [--part P] [--log FILE] [CERTIFICATE] [-o FILE]` is a command of the front alone. `serve` does
+//! it where the first word is `formula`, and hands all other words to `front_core::serve`. Both parts of the work are
 //! commands of `cmd_formula`: the formula goes to the output, and then the log to its file, for which the certificate
 //! is read again.
 //!
