@@ -89,8 +89,11 @@ class Programs(unittest.TestCase):
         with tempfile.TemporaryDirectory() as folder:
             asked = str(batsokemi.Tables(6, batsokemi.read_tables(HARD[2:], 'hex')[0].rows)).encode()
             words = [str(TOP / 'batsokemi'), 'synth', '--conflicts', '10000000', '-o', f'{folder}/kept']
+            others = {name: value for name, value in os.environ.items() if name != 'BATSOKEMI_PROGRAM'}
             with self.assertRaises(subprocess.TimeoutExpired):
-                subprocess.run(words, input=asked, capture_output=True, check=False, timeout=3, pass_fds=[writer])
+                subprocess.run(
+                    words, input=asked, capture_output=True, check=False, timeout=3, pass_fds=[writer], env=others
+                )
             os.close(writer)
             self.assertFalse(remains(reader, 60))
             os.close(reader)
