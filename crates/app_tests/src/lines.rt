@@ -442,10 +442,6 @@ fn other_lines_are_refused(rt: HostRuntime) {
     for &line in NOTHING {
         assert!(rt; asks(rt.alloc(), line, Err(WordsError::Usage)), "{line}");
     }
-}
-
-#[test]
-fn an_empty_line_is_refused(rt: HostRuntime) {
     let none: Vec<String> = Vec::new(rt.alloc());
     assert!(rt; read_words(&none) == Err(WordsError::Usage));
 }
