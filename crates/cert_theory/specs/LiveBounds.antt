@@ -1,21 +1,17 @@
 -- Bounds on a search's logs, which keep them short and cheap to check. An open log keeps at least half of its
 -- additions live (a refuting log needn't), and every log bounds its live additions: at most about three quarters are
 -- live at the end. The budget bounds the additions of every log.
-use Rattle.std.specs.Prelude.{ℕ, ◌+◌, ◌≤◌, List, All, length}
-use Rattle.sat_theory.specs.Formula.{Formula}
+use Rattle.std.specs.Prelude.{ℕ, ◌+◌, ◌≤◌, List, All}
 use Rattle.sat_theory.specs.Log.{additions, HasEmpty, KeepsHalf, BoundsLiveAdditions}
+use Rattle.sat_solve.specs.Answering.{most_past}
 use Rattle.cert_theory.specs.declared.data.Header.{Header}
 use Rattle.cert_theory.specs.Certificate.{SubproblemLog, Section, formula_of}
-
--- how many additions a log may have past its budget: one for each clause and each variable of the formula, and three
-abbrev pub past_budget : Formula → ℕ
-past_budget f = length f.clauses + f.vars + 3
 
 -- the bounds of a subproblem's log, over its formula
 pub record HasLiveBounds (h : Header) (size : ℕ) (p : SubproblemLog) : Type 0 where
   pub kept : (HasEmpty (formula_of h size p.subproblem) p.log → ⊥) → KeepsHalf (formula_of h size p.subproblem) p.log
   pub live_bounded : BoundsLiveAdditions (formula_of h size p.subproblem) p.log
-  pub within_budget : additions p.log ≤ h.conflicts + past_budget (formula_of h size p.subproblem)
+  pub within_budget : additions p.log ≤ h.conflicts + most_past (formula_of h size p.subproblem)
 
 -- the bounds of all logs of a section
 pub record HasLiveBoundsIn (h : Header) (s : Section) : Type 0 where

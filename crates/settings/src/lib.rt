@@ -4,8 +4,8 @@
 //! nothing that encodes, searches or parses. `limits` has the greatest numbers and the defaults of numbers.
 //!
 //! `specs/Synth.antt` and `specs/Improve.antt` define the valid ranges (`IsInRange`) and the defaults
-//! (`defaults`); `specs/Methods.antt` names each method, and says which one `auto` takes. Names and methods correspond one to one
-//! (`laws::names_are_of_one_method`).
+//! (`defaults`); `specs/Methods.antt` names each method, and says which one `auto` takes. Names and methods correspond
+//! one to one (`laws::names_are_of_one_method`).
 //!
 //! ```text
 //! let settings = SynthSettings { max: 3, ..SynthSettings::defaults() };
