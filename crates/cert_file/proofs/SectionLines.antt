@@ -1,12 +1,13 @@
 -- Lines of sections.
-use Rattle.std.proofs.Common.{◌≡◌, ℕ, ◌+◌, Bool, true, false, List, [], ◌∷◌, length, drop, Contains, zero, suc, ◌≤◌, Option, Some, None, Result, Ok, Err, refl, arith, ap, ◌∙◌}
+use Rattle.std.proofs.Common.{◌≡◌, ℕ, ◌+◌, Bool, true, false, if◌then◌else◌, List, [], ◌∷◌, length, drop, Contains, zero, suc, ◌≤◌, Option, Some, None, Result, Ok, Err, refl, arith, ap, ◌∙◌}
 use Rattle.std.specs.Prelude.{IfOk}
 use Rattle.text_core.specs.Lines.{Line}
 use Rattle.sat_theory.specs.Formula.{Formula}
 use Rattle.sat_theory.specs.Line as theory
 use Rattle.enc_theory.specs.declared.subproblem.Subproblem.{Subproblem}
 use Rattle.enc_theory.specs.declared.subproblem.Subproblem.TheVariants.{Whole, Levels}
-use Rattle.cert_theory.specs.Certificate.{formula_of}
+use Rattle.cert_theory.specs.Certificate.{formula_of, stops_after, due_after}
+use Rattle.settings.specs.declared.methods.Method.{Method}
 use Rattle.cert_theory.specs.declared.data.Header.{Header}
 use Rattle.cert_theory.specs.declared.data.LogEnd.{LogEnd}
 use Rattle.cert_theory.specs.declared.data.Verdict.{Verdict}
@@ -35,15 +36,15 @@ pub begun_fails : (h : Header) (number size : ℕ) (low : Option ℕ) (subproble
     sections_of h number (progress size low (Begun subproblem later)) (l ∷ ls) ≡ Err (Syntax number)
 unfolding sections_of
 begun_fails h number size low subproblem later l ls none =
-    ap (λ (o : Option LogEnd). (or_syntax number o >>= λ ended. come (progress size low (Within subproblem later ended []))) >>= go_on h number ls) none
+    ap (λ (o : Option LogEnd). (or_syntax number o >>= λ ended. come (progress size low (Within subproblem (due_after h.method ended later) ended []))) >>= go_on h number ls) none
 
 pub begun_goes : (h : Header) (number size : ℕ) (low : Option ℕ) (subproblem : Subproblem) (later : List Subproblem)
     (l : Line) (ls : List Line) (ended : LogEnd) → ended_in l ≡ Some ended →
     sections_of h number (progress size low (Begun subproblem later)) (l ∷ ls) ≡
-    sections_of h (number + 1) (progress size low (Within subproblem later ended [])) ls
+    sections_of h (number + 1) (progress size low (Within subproblem (due_after h.method ended later) ended [])) ls
 unfolding sections_of
 begun_goes h number size low subproblem later l ls ended e =
-    ap (λ (o : Option LogEnd). (or_syntax number o >>= λ ended. come (progress size low (Within subproblem later ended []))) >>= go_on h number ls) e
+    ap (λ (o : Option LogEnd). (or_syntax number o >>= λ ended. come (progress size low (Within subproblem (due_after h.method ended later) ended []))) >>= go_on h number ls) e
 
 -- ---- the lines of a log
 
@@ -120,6 +121,25 @@ drop_all [] zero few = refl
 drop_all [] (suc k) few = refl
 drop_all (x ∷ xs) zero few = absurd (omega arith)
 drop_all (x ∷ xs) (suc k) few = drop_all xs k (omega arith)
+
+-- the index of what is due next
+left_none : (stops : Bool) (later : List Subproblem) → stops ≡ true → [] ≡ (if stops then [] else later)
+left_none true later e = refl
+left_none false later e = absurd cc
+
+left_all : (stops : Bool) (later : List Subproblem) → stops ≡ false → later ≡ (if stops then [] else later)
+left_all true later e = absurd cc
+left_all false later e = refl
+
+pub next_stops : (method : Method) (ended : LogEnd) (due : List Subproblem) (at : ℕ) → stops_after method ended ≡ true →
+    drop (length due) due ≡ due_after method ended (drop at due)
+next_stops method ended due at stops = drop_all due (length due) (omega arith) ∙ left_none (stops_after method ended) (drop at due) stops
+
+pub next_goes : (method : Method) (ended : LogEnd) (due : List Subproblem) (at : ℕ) → stops_after method ended ≡ false →
+    drop at due ≡ due_after method ended (drop at due)
+next_goes method ended due at goes = left_all (stops_after method ended) (drop at due) goes
+
+pub ruleset nexts = (next_stops, next_goes)
 
 pub first_of : {A : Type 0} (xs : List A) (k : ℕ) (x : A) (later : List A) → drop k xs ≡ x ∷ later → Contains xs x
 first_of [] zero x later e = absurd cc

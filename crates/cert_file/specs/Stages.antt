@@ -20,7 +20,8 @@ use Rattle.cert_theory.specs.Judging.{with_block, before, Between, Begun, Within
 use Rattle.cert_theory.specs.Judging.{after_method, after_conflicts, sections_of, after_chain, end_of, nothing_after}
 use Rattle.cert_theory.specs.Judging.{certificate_of}
 use Rattle.enc_theory.specs.declared.subproblem.Subproblem.{Subproblem}
-use Rattle.cert_theory.specs.Certificate.{subproblems_of, formula_of}
+use Rattle.cert_theory.specs.declared.data.LogEnd.{LogEnd}
+use Rattle.cert_theory.specs.Certificate.{subproblems_of, formula_of, due_after}
 use Rattle.cert_file.specs.declared.subproblem.SubproblemReader.{SubproblemReader}
 use Rattle.cert_file.specs.Logged.{IsReading}
 use Rattle.cert_file.specs.declared.claim.Claim.{Claim}
@@ -96,6 +97,10 @@ claim_in stage = None
 abbrev pub later_of : Running → List Subproblem
 later_of r = drop (r.at + 1) r.subproblems.items
 
+-- those of them that are due after a log that ends so
+abbrev pub left_of : Running → LogEnd → List Subproblem
+left_of r ended = due_after r.header.method ended (later_of r)
+
 -- the current subproblem
 abbrev pub IsSubproblem : Running → Subproblem → Type 0
 IsSubproblem r subproblem = drop r.at r.subproblems.items ≡ subproblem ∷ later_of r
@@ -112,7 +117,7 @@ pub record IsLogging (r : Running) (reader : SubproblemReader) (number : ℕ) (l
   pub is_subproblem : IsSubproblem r subproblem
   pub log : List theory.Line
   pub reading : IsReading (formula_of r.header r.size subproblem) r.header.conflicts log reader
-  pub answer_is : answer ≡ sections_of r.header number (record { size = r.size; low = r.low; place = Within subproblem (later_of r) reader.ended log }) lines
+  pub answer_is : answer ≡ sections_of r.header number (record { size = r.size; low = r.low; place = Within subproblem (left_of r reader.ended) reader.ended log }) lines
 
 -- the chain's grammar, after these outputs
 abbrev pub outs_then : Frame → List chain.Step → Result (List Out × List Line) ChainError → Result block.Read ChainError

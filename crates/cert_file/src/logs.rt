@@ -1,6 +1,6 @@
 //! The lines of logs within a certificate. Each line goes to the reader of its subproblem; after the end of a
 //! log comes the next subproblem or the next size.
-ghost use Rattle.std.specs.Prelude.{◌≡◌, ℕ, ◌+◌, ◌<◌, List, ◌∷◌, Some, IfOk};
+ghost use Rattle.std.specs.Prelude.{◌≡◌, ℕ, ◌+◌, ◌<◌, ◌≤◌, List, ◌∷◌, Some, IfOk, length, drop};
 ghost use Rattle.text_core.specs.Lines as lines;
 ghost use Rattle.cert_theory.specs.Judging as judging;
 ghost use Rattle.cert_theory.specs.SubproblemLines as subproblems;
@@ -8,7 +8,7 @@ ghost use Rattle.cert_theory.specs.Certificate as certificates;
 ghost use Rattle.enc_theory.specs.declared.subproblem.Subproblem.{Subproblem};
 ghost use Rattle.cert_file.specs.HeaderLines.{header_in};
 ghost use Rattle.line_reader.specs.TextLines.{line_of};
-ghost use Rattle.cert_file.specs.Stages.{Answer, Judged, AnswersLines, IsStage, IsRunning, IsSubproblem, later_of};
+ghost use Rattle.cert_file.specs.Stages.{Answer, Judged, AnswersLines, IsStage, IsRunning, IsSubproblem, left_of};
 ghost use Rattle.cert_file.specs.Stages.{IsBegun, IsLogging};
 ghost use Rattle.cert_file.specs.Claims.{KeepsClaim};
 
@@ -18,7 +18,7 @@ use crate::lines::{TextLine, fault_at, is_line};
 use crate::sections::due;
 use crate::stage::{Running, Stage};
 use crate::subproblem::{SubproblemReader, SubproblemStep};
-use cert_theory::{CertificateError, LogEnd};
+use cert_theory::{CertificateError, LogEnd, stops_after};
 use cnf_core::Cnf;
 use std::alloc::{AllocError, Global};
 
@@ -76,20 +76,34 @@ pub fn low_with(low: Option<u32>, end: LogEnd, next: u32) -> Option<u32>
     }
 }
 
+/// The index of the next subproblem that is due after a log that ends so.
+#[tactic(auto, using(crate::proofs::SectionLines::nexts))]
+fn next_at(running: &Running, end: LogEnd) -> usize
+    requires { IsRunning running.now }
+    ensures few { result ≤ length running.now.subproblems.items }
+    ensures next { drop result running.now.subproblems.items ≡ left_of running.now end }
+{
+    if stops_after(running.header.method, end) {
+        running.subproblems.len()
+    } else {
+        running.at + 1
+    }
+}
+
 /// The state after the log of a subproblem.
 fn following(running: Running, end: LogEnd) -> Stage
     requires { IsRunning running }
     ensures keeps { (number : ℕ) → IsStage result number }
     ensures stands { (number : ℕ) (ls : List lines.Line) (answer : Answer) →
         answer ≡ judging.sections_of running.header number
-        (judging.before running.size (judging.low_with running.low end running.size) (later_of running)) ls →
+        (judging.before running.size (judging.low_with running.low end running.size) (left_of running end)) ls →
         AnswersLines result number ls answer }
     ensures keeps_claim { (number : ℕ) (ls all : List lines.Line) → header_in all ≡ Some running.header →
         KeepsClaim result number ls all }
 {
     let mut running = running;
     running.low = low_with(running.low, end, running.size);
-    running.at += 1;
+    running.at = next_at(&running, end);
     due(running)
 }
 

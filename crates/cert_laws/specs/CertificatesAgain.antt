@@ -23,7 +23,8 @@ use Rattle.cert_theory.specs.declared.data.Header.{Header}
 use Rattle.cert_theory.specs.declared.data.Verdict.{Verdict}
 use Rattle.cert_theory.specs.declared.data.CertificateError.TheVariants.{Syntax}
 use Rattle.cert_theory.specs.Certificate.{Section, Certificate, IsHeader, AreSections, IsSection, is_open, first_open}
-use Rattle.cert_theory.specs.Certificate.{IsTrailer, IsValid, HasOutput, SubproblemLog, subproblem_of, formula_of}
+use Rattle.cert_theory.specs.Certificate.{IsTrailer, IsValid, HasOutput, SubproblemLog, subproblem_of, subproblems_of, formula_of}
+use Rattle.cert_theory.specs.TriedLaws.{tried_among}
 use Rattle.cert_theory.specs.Certificate.{IsSubproblemLog}
 use Rattle.cert_theory.specs.Spelling.{table_text, table_line, tables_lines, basis_line, method_line, conflicts_line}
 use Rattle.cert_theory.specs.Spelling.{max_line, header_lines, log_line, section_lines, block_lines, verdict_line}
@@ -172,7 +173,8 @@ unfolding section_lines
 whole_section h size s few is =
     let short : AreShort s.subproblems = λ subproblem there.
     (method_is_coding h.method).fence_names h.spec size subproblem few
-    (subst (λ (subproblems : List Subproblem). Contains subproblems subproblem) is.subproblems_are there) in
+    (tried_among h.method (subproblems_of h size) s.subproblems subproblem
+    (subst (λ (subproblems : List Subproblem). Contains subproblems subproblem) is.subproblems_are there)) in
     whole_cons _ _ (whole_size s.size (omega (arith, is.size_is))) (whole_subproblems h size s.subproblems short (recursion_from_All (IsSubproblemLog h size) s.subproblems is.logs))
 
 whole_sections : (h : Header) (ss : List Section) (size : ℕ) → size + length ss ≤ 17 → AreSections h size ss → IsWhole (flat_map section_lines ss)

@@ -26,6 +26,7 @@ use Rattle.cert_theory.specs.Certificate.{SubproblemLog, Section, Certificate, I
 use Rattle.cert_theory.specs.Certificate.{EndsAs, IsSubproblemLog, subproblem_of, IsSection, AreSections, is_open_end}
 use Rattle.cert_theory.specs.Certificate.{is_open, size_of, first_open, found, IsFound, IsTrailer, IsValid}
 use Rattle.cert_theory.specs.Meaning.{Means}
+use Rattle.cert_theory.specs.TriedLaws.{tried_all}
 use Rattle.chain_theory.specs.Limits.{most_steps}
 
 abbrev Fewer : Header → ℕ → Type 0
@@ -76,7 +77,7 @@ pub none_at : (h : Header) (size : ℕ) (s : Section) → IsHeader h → IsCodin
     IsSection h size s → is_open s ≡ false → Fewer h size → HasChain (specification h.spec) (members h.basis) size → ⊥
 none_at h size s header coding few section refuted fewer has =
     let sat = coding.complete h.spec h.basis size (record { reached = has; none_fewer = fewer }) in
-    let named : Contains (map subproblem_of s.subproblems) sat.0 = subst (λ (subproblems : List Subproblem). Contains subproblems sat.0) (sym section.subproblems_are) sat.1 in
+    let named : Contains (map subproblem_of s.subproblems) sat.0 = subst (λ (subproblems : List Subproblem). Contains subproblems sat.0) (sym (section.subproblems_are ∙ tried_all h.method (subproblems_of h size) s.subproblems refuted)) sat.1 in
     unsatisfied h size sat.0 coding sat.1 (log_of h size s.subproblems sat.0 (recursion_from_All (IsSubproblemLog h size) s.subproblems section.logs) refuted named) sat.2.0 sat.2.1
 
 -- if no chain has fewer than `size` steps and none has `size`, none has fewer than `size + 1`

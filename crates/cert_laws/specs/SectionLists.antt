@@ -20,7 +20,8 @@ use Rattle.cert_theory.specs.declared.data.LogEnd.TheVariants as ends
 use Rattle.cert_theory.specs.declared.data.Verdict.{Verdict}
 use Rattle.cert_theory.specs.declared.data.CertificateError.{CertificateError}
 use Rattle.cert_laws.specs.CodingLaws.{method_is_coding}
-use Rattle.cert_theory.specs.Certificate.{SubproblemLog, Section, subproblem_of, subproblems_of, IsHeader, IsSubproblemLog, EndsAs, IsSection, AreSections, first_open, IsTrailer, formula_of}
+use Rattle.cert_theory.specs.Certificate.{SubproblemLog, Section, subproblem_of, subproblems_of, IsHeader, IsSubproblemLog, EndsAs, IsSection, AreSections, first_open, IsTrailer, formula_of, due_after, tried}
+use Rattle.cert_theory.specs.TriedLaws.{tried_among}
 use Rattle.cert_theory.specs.Spelling.{size_line, ended_text, done_text, log_line, section_lines, trailer_lines, fence_text, name_lines, subproblem_lines}
 use Rattle.cert_theory.specs.Gives.{◌>>=◌}
 use Rattle.cert_theory.specs.Judging.{Progress, Between, Begun, Within, low_with, section_at, trailer_at, sections_of, Due, before, may_follow, or_syntax, at_line}
@@ -72,29 +73,29 @@ name_step h number size low sizes later ls =
 
 ended_step : (h : Header) (number size : ℕ) (low : Option ℕ) (subproblem : Subproblem) (later : List Subproblem)
     (ended : LogEnd) (ls : List Line) → sections_of h number (progress size low (Begun subproblem later))
-    (line (ended_text ended) ∷ ls) ≡ sections_of h (number + 1) (progress size low (Within subproblem later ended []))
-    ls
+    (line (ended_text ended) ∷ ls) ≡ sections_of h (number + 1)
+    (progress size low (Within subproblem (due_after h.method ended later) ended [])) ls
 unfolding sections_of
 ended_step h number size low subproblem later ended ls =
-    ap (λ (o : Option LogEnd). (or_syntax number o >>= λ e. come (progress size low (Within subproblem later e []))) >>= λ next. sections_of h (number + 1) next ls) (ended_again ended)
+    ap (λ (o : Option LogEnd). (or_syntax number o >>= λ e. come (progress size low (Within subproblem (due_after h.method e later) e []))) >>= λ next. sections_of h (number + 1) next ls) (ended_again ended)
 
 -- the lines of a log are accepted
 log_again : (h : Header) (number size : ℕ) (low : Option ℕ) (subproblem : Subproblem) (later : List Subproblem)
     (ended : LogEnd) (log : List theory.Line) (following : List Line) (v : Verdict) →
     IsFormula (formula_of h size subproblem) → EndsAs (formula_of h size subproblem) h.conflicts ended log →
-    Onward h size (low_with low ended size) later following v
+    Onward h size (low_with low ended size) (due_after h.method ended later) following v
     → sections_of h number (progress size low (Begun subproblem later)) (line (ended_text ended) ∷ (map log_line log ++ line done_text ∷ following)) ≡ Ok v
 unfolding after
 log_again h number size low subproblem later ended log following v formula is onward =
     let f = formula_of h size subproblem in
     ended_step h number size low subproblem later ended (map log_line log ++ line done_text ∷ following)
-    ∙ within_again log h (number + 1) size low subproblem later ended [] following v (start_clauses f formula) (log_holds f h.conflicts ended log is) (log_fresh f h.conflicts ended log is) is onward
+    ∙ within_again log h (number + 1) size low subproblem (due_after h.method ended later) ended [] following v (start_clauses f formula) (log_holds f h.conflicts ended log is) (log_fresh f h.conflicts ended log is) is onward
 
 -- a subproblem, with its name
 subproblem_again : (subproblem : Subproblem) (h : Header) (number size : ℕ) (low : Option ℕ) (later : List Subproblem)
     (ended : LogEnd) (log : List theory.Line) (following : List Line) (v : Verdict) →
     IsFormula (formula_of h size subproblem) → EndsAs (formula_of h size subproblem) h.conflicts ended log →
-    Onward h size (low_with low ended size) later following v
+    Onward h size (low_with low ended size) (due_after h.method ended later) following v
     → sections_of h number (before size low (subproblem ∷ later)) (name_lines subproblem ++ (line (ended_text ended) ∷ (map log_line log ++ line done_text ∷ following))) ≡ Ok v
 unfolding before name_lines
 subproblem_again Whole h number size low later ended log following v formula is onward = log_again h number size low Whole later ended log following v formula is onward
@@ -105,24 +106,40 @@ subproblem_again (Levels sizes) h number size low later ended log following v fo
 abbrev AreFormulas : Header → ℕ → List SubproblemLog → Type 0
 AreFormulas h size ps = (subproblem : Subproblem) → Contains (map subproblem_of ps) subproblem → IsFormula (formula_of h size subproblem)
 
+head_is : (p q : Subproblem) (ps qs : List Subproblem) → p ∷ ps ≡ q ∷ qs → p ≡ q
+head_is p q ps qs e = cc
+
+tail_is : (p q : Subproblem) (ps qs : List Subproblem) → p ∷ ps ≡ q ∷ qs → ps ≡ qs
+tail_is p q ps qs e = cc
+
 -- all subproblems of a section
-subproblems_again : (ps : List SubproblemLog) (h : Header) (number size : ℕ) (low : Option ℕ) (following : List Line)
-    (v : Verdict) → AreFormulas h size ps → AllByRecursion (IsSubproblemLog h size) ps →
+subproblems_again : (ps : List SubproblemLog) (h : Header) (number size : ℕ) (low : Option ℕ) (due : List Subproblem)
+    (following : List Line) (v : Verdict) → map subproblem_of ps ≡ tried h.method due ps → AreFormulas h size ps →
+    AllByRecursion (IsSubproblemLog h size) ps →
     ((n : ℕ) → sections_of h n (progress (size + 1) (low_after low size ps) Between) following ≡ Ok v)
-    → sections_of h number (before size low (map subproblem_of ps)) (flat_map subproblem_lines ps ++ following) ≡ Ok v
-unfolding before low_after
-subproblems_again [] h number size low following v formulas logs onward = onward number
-subproblems_again (p ∷ ps) h number size low following v formulas logs onward =
+    → sections_of h number (before size low due) (flat_map subproblem_lines ps ++ following) ≡ Ok v
+unfolding before low_after tried
+subproblems_again [] h number size low due following v are formulas logs onward =
+    subst (λ (xs : List Subproblem). sections_of h number (before size low xs) following ≡ Ok v) are (onward number)
+subproblems_again (p ∷ ps) h number size low [] following v are formulas logs onward = absurd cc
+subproblems_again (p ∷ ps) h number size low (q ∷ later) following v are formulas logs onward =
     let rest = flat_map subproblem_lines ps ++ following in
-    ap (sections_of h number (before size low (p.subproblem ∷ map subproblem_of ps)))
+    let left = due_after h.method p.ended later in
+    let same : p.subproblem ≡ q = head_is p.subproblem q (map subproblem_of ps) (tried h.method left ps) are in
+    ap (λ (x : Subproblem). sections_of h number (before size low (x ∷ later)) (flat_map subproblem_lines (p ∷ ps) ++ following)) (sym same)
+    ∙ ap (sections_of h number (before size low (p.subproblem ∷ later)))
     (append_assoc (subproblem_lines p) (flat_map subproblem_lines ps) following
     ∙ subproblem_text p.subproblem p.ended p.log rest)
-    ∙ subproblem_again p.subproblem h number size low (map subproblem_of ps) p.ended p.log rest v (formulas p.subproblem (0, omega arith, refl)) logs.0
-    (λ n. subproblems_again ps h n size (low_with low p.ended size) following v (λ subproblem there. formulas subproblem (suc there.0, omega (arith, there.1), there.2)) logs.1 onward)
+    ∙ subproblem_again p.subproblem h number size low later p.ended p.log rest v (formulas p.subproblem (0, omega arith, refl)) logs.0
+    (λ n. subproblems_again ps h n size (low_with low p.ended size) left following v
+    (tail_is p.subproblem q (map subproblem_of ps) (tried h.method left ps) are)
+    (λ subproblem there. formulas subproblem (suc there.0, omega (arith, there.1), there.2)) logs.1 onward)
 
 section_formulas : (h : Header) (size : ℕ) (s : Section) → IsSection h size s → AreFormulas h size s.subproblems
 section_formulas h size s is subproblem there =
-    (method_is_coding h.method).formulas h.spec h.basis size subproblem (subst (λ (subproblems : List Subproblem). Contains subproblems subproblem) is.subproblems_are there)
+    (method_is_coding h.method).formulas h.spec h.basis size subproblem
+    (tried_among h.method (subproblems_of h size) s.subproblems subproblem
+    (subst (λ (subproblems : List Subproblem). Contains subproblems subproblem) is.subproblems_are there))
 
 -- the lines of a section are accepted
 section_again : (h : Header) (number size : ℕ) (low : Option ℕ) (s : Section) (following : List Line) (v : Verdict) →
@@ -134,8 +151,7 @@ section_again h number size low s following v fits few is onward =
     let ls = flat_map subproblem_lines s.subproblems ++ following in
     ap (λ (k : ℕ). sections_of h number (progress size low Between) (line (size_line k) ∷ ls)) is.size_is
     ∙ size_step h number size low ls fits few
-    ∙ ap (λ (subproblems : List Subproblem). sections_of h (number + 1) (before size low subproblems) ls) (sym is.subproblems_are)
-    ∙ subproblems_again s.subproblems h (number + 1) size low following v (section_formulas h size s is) (recursion_from_All (IsSubproblemLog h size) s.subproblems is.logs) onward
+    ∙ subproblems_again s.subproblems h (number + 1) size low (subproblems_of h size) following v is.subproblems_are (section_formulas h size s is) (recursion_from_All (IsSubproblemLog h size) s.subproblems is.logs) onward
 
 -- ---- all sections
 

@@ -21,7 +21,7 @@ use Rattle.cert_theory.specs.declared.data.Verdict.{Verdict}
 use Rattle.cert_theory.specs.declared.data.CertificateError.{CertificateError}
 use Rattle.cert_theory.specs.declared.data.SubproblemError.{SubproblemError}
 use Rattle.cert_theory.specs.declared.data.SubproblemError.TheVariants.{NotRefuted, Syntax}
-use Rattle.cert_theory.specs.Certificate.{Section, IsSubproblemLog, EndsAs, AreSections, first_open, IsTrailer, SubproblemLog, subproblem_of, subproblems_of, formula_of, is_open_end, is_open, size_of}
+use Rattle.cert_theory.specs.Certificate.{Section, IsSubproblemLog, EndsAs, AreSections, first_open, IsTrailer, SubproblemLog, subproblem_of, subproblems_of, formula_of, is_open_end, is_open, size_of, due_after, tried}
 use Rattle.cert_theory.specs.Spelling.{size_line, ended_text, done_text, log_line, name_lines, subproblem_lines, section_lines, trailer_lines, fence_text}
 use Rattle.cert_theory.specs.Gives.{◌>>=◌}
 use Rattle.cert_theory.specs.SubproblemLines.{is_line, logged_in, done_in, name_in, ended_in, subproblem_in}
@@ -56,7 +56,7 @@ pub record Rest (h : Header) (size : ℕ) (low : Option ℕ) (ls : List Line) (v
 -- the logs of the remaining subproblems, and the lines after the section
 pub record SubproblemsRest (h : Header) (size : ℕ) (low : Option ℕ) (due : List Subproblem) (ls : List Line) (v : Verdict) : Type 0 where
   pub subproblems : List SubproblemLog
-  pub subproblems_are : map subproblem_of subproblems ≡ due
+  pub subproblems_are : map subproblem_of subproblems ≡ tried h.method due subproblems
   pub logs : AllByRecursion (IsSubproblemLog h size) subproblems
   pub following : List Line
   pub rest : Rest h (size + 1) (low_after low size subproblems) following v
@@ -72,7 +72,7 @@ pub record LogRest (h : Header) (size : ℕ) (low : Option ℕ) (subproblem : Su
 pub record BegunRest (h : Header) (size : ℕ) (low : Option ℕ) (subproblem : Subproblem) (later : List Subproblem) (ls : List Line) (v : Verdict) : Type 0 where
   pub ended : LogEnd
   pub following : List Line
-  pub rest : LogRest h size low subproblem later ended [] following v
+  pub rest : LogRest h size low subproblem (due_after h.method ended later) ended [] following v
   pub lines : ls ≡ line (ended_text ended) ∷ following
 
 pub record DueRest (h : Header) (size : ℕ) (low : Option ℕ) (sizes : List ℕ) (later : List Subproblem) (ls : List Line) (v : Verdict) : Type 0 where
@@ -176,7 +176,7 @@ subproblem_text subproblem ended log following =
 begun_subproblems : (h : Header) (size : ℕ) (low : Option ℕ) (subproblem : Subproblem) (later : List Subproblem)
     (ls all : List Line) (v : Verdict) → all ≡ name_lines subproblem ++ ls →
     BegunRest h size low subproblem later ls v → SubproblemsRest h size low (subproblem ∷ later) all v
-unfolding low_after
+unfolding low_after tried
 begun_subproblems h size low subproblem later ls all v first begun =
     let log = begun.rest in
     let subproblems = log.rest in
@@ -205,7 +205,7 @@ at_before h size low (Levels sizes ∷ later) few = few
 before_rest : (h : Header) (size : ℕ) (low : Option ℕ) (due : List Subproblem) (ls : List Line) (v : Verdict) →
     RestAt h (before size low due).size (before size low due).low (before size low due).place ls v →
     SubproblemsRest h size low due ls v
-unfolding before low_after name_lines
+unfolding before low_after name_lines tried
 before_rest h size low [] ls v rest = record { subproblems = []; subproblems_are = refl; logs = tt; following = ls; rest = rest; lines = refl }
 before_rest h size low (Whole ∷ later) ls v rest = begun_subproblems h size low Whole later ls ls v refl rest
 before_rest h size low (Levels sizes ∷ later) ls v rest = begun_subproblems h size low (Levels sizes) later rest.following ls v rest.lines rest.rest
@@ -276,7 +276,7 @@ due_case h number size low sizes later l ls v e =
 record BegunCase (h : Header) (number size : ℕ) (low : Option ℕ) (subproblem : Subproblem) (later : List Subproblem) (l : Line) (ls : List Line) (v : Verdict) : Type 0 where
   ended : LogEnd
   read : ended_in l ≡ Some ended
-  next : sections_of h (number + 1) (progress size low (Within subproblem later ended [])) ls ≡ Ok v
+  next : sections_of h (number + 1) (progress size low (Within subproblem (due_after h.method ended later) ended [])) ls ≡ Ok v
 
 begun_case : (h : Header) (number size : ℕ) (low : Option ℕ) (subproblem : Subproblem) (later : List Subproblem)
     (l : Line) (ls : List Line) (v : Verdict) → sections_of h number (progress size low (Begun subproblem later))
@@ -284,8 +284,9 @@ begun_case : (h : Header) (number size : ℕ) (low : Option ℕ) (subproblem : S
 unfolding sections_of
 begun_case h number size low subproblem later l ls v e =
     let next = bind_ok (section_at h number size low (Begun subproblem later) l) (go_on h number ls) v e in
-    let read = bind_ok (or_syntax number (ended_in l)) (λ ended. Ok (progress size low (Within subproblem later ended []))) next.0 next.1 in
-    let same : progress size low (Within subproblem later read.0 []) ≡ next.0 = progress_is (progress size low (Within subproblem later read.0 [])) next.0 read.2 in
+    let read = bind_ok (or_syntax number (ended_in l)) (λ ended. Ok (progress size low (Within subproblem (due_after h.method ended later) ended []))) next.0 next.1 in
+    let begun = progress size low (Within subproblem (due_after h.method read.0 later) read.0 []) in
+    let same : begun ≡ next.0 = progress_is begun next.0 read.2 in
     record { ended = read.0; read = read_ok number (ended_in l) read.0 read.1; next = ap (go_on h number ls) same ∙ next.2 }
 
 record DoneCase (h : Header) (number size : ℕ) (low : Option ℕ) (subproblem : Subproblem) (later : List Subproblem)
@@ -423,7 +424,7 @@ sections_spell (l ∷ ls) h number size low (Begun subproblem later) v is e =
     record {
       ended = begun.ended;
       following = ls;
-      rest = sections_spell ls h (number + 1) size low (Within subproblem later begun.ended []) v (is, no_log (formula_of h size subproblem) begun.ended) begun.next;
+      rest = sections_spell ls h (number + 1) size low (Within subproblem (due_after h.method begun.ended later) begun.ended []) v (is, no_log (formula_of h size subproblem) begun.ended) begun.next;
       lines = λ i. ended_spells l begun.ended begun.read i ∷ ls;
     }
 sections_spell (l ∷ ls) h number size low (Within subproblem later ended log) v is e =

@@ -1,6 +1,6 @@
 -- Certificates, and when they are valid.
 use Rattle.std.specs.Prelude.{◌≡◌, ℕ, ◌+◌, ◌≤◌, ◌<◌, Bool, true, false, List, [], ◌∷◌, length, map, All, Option, Some}
-use Rattle.std.specs.Prelude.{None}
+use Rattle.std.specs.Prelude.{None, if◌then◌else◌}
 use Rattle.std.specs.List.{list_any, find}
 use Rattle.std.specs.Option.{option_map}
 use Rattle.chain_theory.specs.Chain.{Chain, IsChain}
@@ -19,7 +19,8 @@ use Rattle.cert_theory.specs.declared.data.LogEnd.{LogEnd}
 use Rattle.cert_theory.specs.declared.data.LogEnd.TheVariants as ends
 use Rattle.cert_theory.specs.declared.data.Verdict.{Verdict}
 use Rattle.cert_theory.specs.declared.data.Verdict.TheVariants as verdicts
-use Rattle.cert_theory.specs.Coding.{coding_of}
+use Rattle.settings.specs.declared.methods.Method.{Method}
+use Rattle.cert_theory.specs.Coding.{coding_of, stops_when_open}
 
 -- ---- certificates as values
 
@@ -75,10 +76,26 @@ IsSubproblemLog h size p = EndsAs (formula_of h size p.subproblem) h.conflicts p
 abbrev pub subproblem_of : SubproblemLog → Subproblem
 subproblem_of p = p.subproblem
 
--- the section of a size has a log for each subproblem of the size, in order
+-- whether a size isn't searched further after a log that ends so
+abbrev pub stops_after : Method → LogEnd → Bool
+stops_after method ends.Refuted = false
+stops_after method ends.Open = stops_when_open method
+
+-- the subproblems that are due after it, of those that follow
+abbrev pub due_after : Method → LogEnd → List Subproblem → List Subproblem
+due_after method ended later = if stops_after method ended then [] else later
+
+-- of the subproblems of a size, those that a section has a log for: all, but by `strong-fence` none after an open one
+-- Example: by `strong-fence`, where the first log is open, the first subproblem alone.
+unfoldable pub tried : Method → List Subproblem → List SubproblemLog → List Subproblem
+tried method due [] = due
+tried method [] (p ∷ ps) = []
+tried method (subproblem ∷ later) (p ∷ ps) = subproblem ∷ tried method (due_after method p.ended later) ps
+
+-- the section of a size has a log for each subproblem of the size that is tried, in order
 pub record IsSection (h : Header) (size : ℕ) (s : Section) : Type 0 where
   pub size_is : s.size ≡ size
-  pub subproblems_are : map subproblem_of s.subproblems ≡ subproblems_of h size
+  pub subproblems_are : map subproblem_of s.subproblems ≡ tried h.method (subproblems_of h size) s.subproblems
   pub logs : All (IsSubproblemLog h size) s.subproblems
 
 -- sections of consecutive sizes, from `size` on

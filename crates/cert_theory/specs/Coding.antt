@@ -53,6 +53,15 @@ has_fence_names Fence = true
 has_fence_names Strong = false
 has_fence_names StrongFence = true
 
+-- By `strong-fence` a size isn't searched further once one of its fences is left open.
+abbrev pub stops_when_open : Method → Bool
+stops_when_open Plain = false
+stops_when_open Ssv = false
+stops_when_open Select = false
+stops_when_open Fence = false
+stops_when_open Strong = false
+stops_when_open StrongFence = true
+
 -- the encoding of a method
 unfoldable pub coding_of : Method → Coding
 coding_of Plain = plain_coding

@@ -43,7 +43,7 @@ use Rattle.cert_theory.specs.declared.data.SubproblemError.TheVariants as subpro
 use Rattle.cert_theory.specs.Coding.{has_fence_names}
 use Rattle.cert_theory.specs.Gives.{◌>>=◌, with_fault}
 use Rattle.cert_theory.specs.SubproblemLines.{is_line, name_in, ended_in, subproblem_in}
-use Rattle.cert_theory.specs.Certificate.{subproblems_of, formula_of, found, not_found}
+use Rattle.cert_theory.specs.Certificate.{subproblems_of, formula_of, due_after, found, not_found}
 use Rattle.cert_theory.specs.Difference.{difference_of}
 
 -- ---- lines
@@ -151,7 +151,7 @@ not_found_in l =
 -- ---- sections
 
 -- The state between lines of a section: no section has begun; the name of a fence is due; a subproblem is known
--- and its log is due; or its log has begun and has these lines. `later` are the subproblems after it.
+-- and its log is due; or its log has begun and has these lines. `later` are the subproblems that are due after it.
 pub data SectionState : Type 0 where
   Between : SectionState
   Due : (sizes : List ℕ) (later : List Subproblem) → SectionState
@@ -230,7 +230,7 @@ section_at h number size low (Begun subproblem later) l =
     or_syntax number (ended_in l) >>= λ ended. Ok (record {
       size = size;
       low = low;
-      place = Within subproblem later ended [];
+      place = Within subproblem (due_after h.method ended later) ended [];
     })
 section_at h number size low (Within subproblem later ended log) l =
     at_line number (subproblem_in (formula_of h size subproblem) h.conflicts ended log l) >>= λ step.

@@ -10,5 +10,6 @@ pub mod SubproblemLines
 pub mod Judging
 pub mod GivesLaws
 pub mod SectionLaws
+pub mod TriedLaws
 pub mod PrefixLaws
 pub mod LiveBounds

@@ -25,6 +25,7 @@ mod data;
 mod fence_names;
 pub mod laws;
 mod section;
+mod stopping;
 mod subproblem_log;
 mod verdicts;
 
@@ -32,4 +33,5 @@ pub use certificate::Certificate;
 pub use data::{CertificateError, Header, LogEnd, SubproblemError, Verdict};
 pub use fence_names::fence_name;
 pub use section::Section;
+pub use stopping::stops_after;
 pub use subproblem_log::SubproblemLog;

@@ -4,7 +4,7 @@ use Rattle.sat_theory.specs.Formula.{Formula}
 use Rattle.cert_theory.specs.declared.data.LogEnd.{LogEnd}
 use Rattle.cert_theory.specs.Judging.{sections_of, Begun, Within}
 use Rattle.cert_file.specs.Logged.{IsReading}
-use Rattle.cert_file.specs.Stages.{later_of}
+use Rattle.cert_file.specs.Stages.{later_of, left_of}
 use Rattle.cert_file.proofs.SectionLines.{progress, begun_fails, begun_goes}
 use Rattle.cert_file.proofs.logs.at_begun.Goals as goal
 
@@ -26,5 +26,5 @@ returns-clause-answer c = λ lines ls answer begun same.
       answer_is =
           is
           ∙ begun_goes r.header c.args.line.now.number r.size r.low begun.subproblem (later_of r) _ ls c.in-Some.end (sym c.in-Some.ensures)
-          ∙ ap (λ (e : LogEnd). sections_of r.header (c.args.line.now.number + 1) (progress r.size r.low (Within begun.subproblem (later_of r) e [])) ls) (sym c.in_ok-reader.ensures.ended);
+          ∙ ap (λ (e : LogEnd). sections_of r.header (c.args.line.now.number + 1) (progress r.size r.low (Within begun.subproblem (left_of r e) e [])) ls) (sym c.in_ok-reader.ensures.ended);
     }
