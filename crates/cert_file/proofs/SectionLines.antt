@@ -1,5 +1,5 @@
 -- Lines of sections.
-use Rattle.std.proofs.Common.{◌≡◌, ℕ, ◌+◌, Bool, true, false, if◌then◌else◌, List, [], ◌∷◌, length, drop, Contains, zero, suc, ◌≤◌, Option, Some, None, Result, Ok, Err, refl, arith, ap, ◌∙◌}
+use Rattle.std.proofs.Common.{◌≡◌, ℕ, ◌+◌, Bool, true, false, cond, List, [], ◌∷◌, length, drop, Contains, zero, suc, ◌≤◌, Option, Some, None, Result, Ok, Err, refl, arith, ap, ◌∙◌}
 use Rattle.std.specs.Prelude.{IfOk}
 use Rattle.text_core.specs.Lines.{Line}
 use Rattle.sat_theory.specs.Formula.{Formula}
@@ -123,11 +123,11 @@ drop_all (x ∷ xs) zero few = absurd (omega arith)
 drop_all (x ∷ xs) (suc k) few = drop_all xs k (omega arith)
 
 -- the index of what is due next
-left_none : (stops : Bool) (later : List Subproblem) → stops ≡ true → [] ≡ (if stops then [] else later)
+left_none : (stops : Bool) (later : List Subproblem) → stops ≡ true → [] ≡ (cond stops [] later)
 left_none true later e = refl
 left_none false later e = absurd cc
 
-left_all : (stops : Bool) (later : List Subproblem) → stops ≡ false → later ≡ (if stops then [] else later)
+left_all : (stops : Bool) (later : List Subproblem) → stops ≡ false → later ≡ (cond stops [] later)
 left_all true later e = absurd cc
 left_all false later e = refl
 

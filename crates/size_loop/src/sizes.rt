@@ -1,5 +1,6 @@
 //! One size, subproblem by subproblem in order. The first with a chain ends the search; if none has one, there is a
-//! log for each, in the same order. A chain of few steps over few inputs is found by enumeration (`step_core`), in
+//! log for each, in the same order; by `strong-fence` the search of the size ends with the first that is left open. A
+//! chain of few steps over few inputs is found by enumeration (`step_core`), in
 //! less time than it takes to write the formula of its size.
 ghost use Rattle.std.specs.Prelude.{◌≤◌, IfOk, IfSome};
 ghost use Rattle.cert_theory.specs.Certificate.{IsHeader, IsFound};
@@ -8,7 +9,7 @@ ghost use Rattle.size_loop.specs.Outcomes.{IsSized, IsKnown};
 ghost use Rattle.size_loop.specs.Coded.{IsCodedBy};
 
 use crate::trying::{SubproblemOutcome, try_subproblem};
-use cert_theory::{Header, Section};
+use cert_theory::{Header, Section, stops_after};
 use chain_core::Chain;
 use enc_base::Encoding;
 use enc_fence::FenceEnc;
@@ -110,7 +111,8 @@ pub(crate) fn search_formulas<S: Solver>(
     }
 }
 
-/// Searches the subproblems of `size` by any encoding that writes the formulas of the header's method.
+/// Searches the subproblems of `size` by any encoding that writes the formulas of the header's method, up to the first
+/// that is left open where the method says so.
 fn search_subproblems<S: Solver, E: Encoding>(
     alloc: Global,
     encoding: &E,
@@ -124,10 +126,16 @@ fn search_subproblems<S: Solver, E: Encoding>(
     ensures { IfOk result (λ outcome. IsSized header.now size outcome) }
 {
     let mut subproblems = Vec::new(alloc);
+    let mut stopped = false;
     for subproblem in encoding.subproblems(alloc, &header.spec, size)? {
-        match try_subproblem::<S, E>(alloc, encoding, header, size, subproblem)? {
-            SubproblemOutcome::Found(chain) => return Ok(SizeOutcome::Found(chain)),
-            SubproblemOutcome::Logged(log) => subproblems.push(log)?,
+        if !stopped {
+            match try_subproblem::<S, E>(alloc, encoding, header, size, subproblem)? {
+                SubproblemOutcome::Found(chain) => return Ok(SizeOutcome::Found(chain)),
+                SubproblemOutcome::Logged(log) => {
+                    stopped = stops_after(header.method, log.ended);
+                    subproblems.push(log)?;
+                }
+            }
         }
     }
     Ok(SizeOutcome::Logged(Section { size, subproblems }))

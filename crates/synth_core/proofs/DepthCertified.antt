@@ -15,6 +15,7 @@ use Rattle.cert_theory.specs.Certificate.{Certificate}
 use Rattle.cert_theory.specs.Spelling.{cert_text}
 use Rattle.cert_theory.specs.LiveBounds.{HasLiveBounds, HaveLiveBounds}
 use Rattle.synth_core.specs.SettingsHeader.{header_of}
+use Rattle.synth_core.specs.UsedInputs.{used_inputs}
 use Rattle.depth_theory.specs.DepthCertificate.{DepthCertificate}
 use Rattle.depth_theory.specs.DepthSpelling.{depth_text}
 use Rattle.depth_core.specs.Flattened as found
@@ -30,7 +31,7 @@ settings_range settings range = record { basis_from = range.basis_from; max_to =
 
 header_same : (w : Words) (settings : SynthSettings) → settings.method ≡ Named Fence → by_fences w settings ≡ header_of w settings
 header_same w settings is =
-    ap (λ (m : MethodChoice). record { spec = w; basis = settings.basis; method = method_for m w.n (length w.on); conflicts = settings.conflicts; max = settings.max }) (sym is)
+    ap (λ (m : MethodChoice). record { spec = w; basis = settings.basis; method = method_for m (used_inputs (specification w)) (length w.on); conflicts = settings.conflicts; max = settings.max }) (sym is)
 
 own_header : (h : Header) (w : Words) (settings : SynthSettings) → settings.method ≡ Named Fence → h ≡ by_fences w settings → h ≡ header_of h.spec settings
 own_header h w settings fences is =

@@ -1,2 +1,3 @@
 pub mod InProgress
+pub mod Used
 pub mod DepthCertified

@@ -1,3 +1,4 @@
+pub mod UsedInputs
 pub mod SettingsHeader
 pub mod Tables
 pub mod Certifying

@@ -16,6 +16,7 @@
 //! ```
 #![tactic(auto)]
 
+mod counting;
 mod least_depth;
 mod pieces;
 mod reading;

@@ -9,6 +9,7 @@ ghost use Rattle.synth_core.specs.Pieces.{IsInProgress, IsNextPiece, Rises};
 ghost use Rattle.synth_core.specs.SettingsHeader.{header_of};
 ghost use Rattle.synth_core.specs.Tables.{tables_alone};
 
+use crate::counting::used_inputs;
 use crate::reading::tables;
 use cert_text::{write_header, write_section, write_trailer};
 use cert_theory::Verdict;
@@ -39,7 +40,7 @@ pub enum Piece {
 fn method_of(settings: &SynthSettings, spec: &Spec) -> Method
     ensures { result ≡ (header_of spec.now settings.now).method }
 {
-    method_for(settings.method, spec.n(), spec.outputs())
+    method_for(settings.method, used_inputs(spec), spec.outputs())
 }
 
 /// Begins a search for a chain of the fewest steps that implements the tables in the input. A line after the
