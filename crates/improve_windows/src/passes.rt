@@ -11,7 +11,7 @@ ghost use Rattle.settings.specs.Improve.{IsInRange};
 ghost use Rattle.improve_theory.specs.Leading.{IsReplacement};
 ghost use Rattle.improve_theory.specs.Improvement.{IsResynthesisOf, IsImprovementBy};
 
-use crate::stages::{first_work, stage_work};
+use crate::stages::{first_patience, first_work, stage_work};
 use improve_theory::Undecided;
 use net_core::{Net, remove_dangling};
 use progress::{Progress, Tell};
@@ -54,6 +54,21 @@ fn resynthesized<S: Solver>(
     })
 }
 
+/// A smaller net, if the moves have found one.
+#[tactic(auto, using(crate::specs::ImprovementLaws::improving))]
+fn found_by<S: Solver>(
+    moves: &mut Moves,
+    net: &Net,
+    settings: &ImproveSettings,
+) -> Result<Option<Net>, AllocError>
+    ensures { IfOk result (λ found. IfSome found (IsReplacement (members settings.now.basis) net.now)) }
+{
+    match moves.smaller::<S>(net, settings.basis)? {
+        Some(smaller) => Ok(Some(smaller)),
+        None => Ok(None),
+    }
+}
+
 /// A smaller net after so much more work of moves over the whole net, if they find one; none without work.
 #[tactic(auto, using(crate::specs::ImprovementLaws::improving))]
 fn moved<S: Solver>(
@@ -68,10 +83,7 @@ fn moved<S: Solver>(
         return Ok(None);
     }
     moves.run(net, work)?;
-    match moves.smaller::<S>(net, settings.basis)? {
-        Some(smaller) => Ok(Some(smaller)),
-        None => Ok(None),
-    }
+    found_by::<S>(moves, net, settings)
 }
 
 /// The net after the first stage of moves, which only a net of at least `LEAST_MOVED_GATES` gates goes through.
@@ -83,10 +95,12 @@ fn after_moves<S: Solver>(
 ) -> Result<Net, AllocError>
     ensures { IfOk result (IsReplacement (members settings.now.basis) net) }
 {
-    if net.gates().len() < LEAST_MOVED_GATES {
+    let gates = net.gates().len();
+    if gates < LEAST_MOVED_GATES {
         return Ok(net);
     }
-    let found = moved::<S>(moves, &net, settings, first_work(net.gates().len()))?;
+    moves.begin(first_work(gates), first_patience(gates))?;
+    let found = found_by::<S>(moves, &net, settings)?;
     Ok(found.unwrap_or(net))
 }
 
