@@ -49,11 +49,11 @@ pub enum Progress {
     Written(Written),
     /// After a further stage a netlist has so many gates.
     Gates(usize),
+    /// A round over all roots of windows begins.
+    Round,
     /// The windows of a root are attempted next.
     Root {
-        /// The number of the round over all roots, from 1.
-        round: u32,
-        /// How many roots it has behind it.
+        /// How many roots a round has behind it.
         done: u32,
         /// How many roots it has.
         all: u32,

@@ -158,16 +158,7 @@ fn compare_candidates<S: Solver, T: Tell>(
         let Some(y) = candidate else {
             return Ok(SweepEvent::Nothing);
         };
-        let (event, again) = compare(
-            solver,
-            bounds,
-            sweeping,
-            x,
-            y,
-            is_strash_equal,
-            limit,
-            tell,
-        )?;
+        let (event, again) = compare(solver, bounds, sweeping, x, y, is_strash_equal, limit, tell)?;
         if !again {
             return Ok(event);
         }

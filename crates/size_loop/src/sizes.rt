@@ -90,8 +90,8 @@ pub fn search_size<S: Solver>(
     search_formulas::<S, Silent>(alloc, header, size, &Silent)
 }
 
-/// Searches the subproblems of `size` in order with the solver `S`, by the encoding of the header's method. `tell` hears
-/// of each.
+/// Searches the subproblems of `size` in order with the solver `S`, by the encoding of the header's method. `tell`
+/// hears of each.
 #[tactic(auto, unfolding(cert_theory::specs::Coding::coding_of))]
 pub(crate) fn search_formulas<S: Solver, T: Tell>(
     alloc: Global,
@@ -109,7 +109,13 @@ pub(crate) fn search_formulas<S: Solver, T: Tell>(
         Method::Select => search_subproblems::<S, _, T>(alloc, &Select, header, size, tell),
         Method::Fence => search_subproblems::<S, _, T>(alloc, &FenceEnc, header, size, tell),
         Method::Strong => search_subproblems::<S, _, T>(alloc, &Strong, header, size, tell),
-        Method::StrongFence => search_subproblems::<S, _, T>(alloc, &StrongFence, header, size, tell),
+        Method::StrongFence => search_subproblems::<S, _, T>(
+            alloc,
+            &StrongFence,
+            header,
+            size,
+            tell,
+        ),
     }
 }
 
