@@ -36,17 +36,18 @@ pub struct ImprovedNet {
 /// Resynthesizes a net, until no window up to the cap has a shorter chain, or `settings.rounds` rounds have
 /// changed something.
 #[tactic(auto, using(crate::specs::ImprovementLaws::improving))]
-fn resynthesized<S: Solver>(
+fn resynthesized<S: Solver, T: Tell>(
     alloc: Global,
     net: Net,
     settings: &ImproveSettings,
+    tell: &T,
 ) -> Result<ImprovedNet, AllocError>
     requires range { IsInRange settings.now }
     requires cap { 1 ≤ settings.now.cap }
     ensures { IfOk result (λ left. IsResynthesisOf settings.now net left.net left.settled left.undecided.items) }
 {
     let mut attempts = WindowAttempts::<S>::new(alloc, net, *settings)?;
-    let Resynthesized { settled, undecided } = resynthesize(alloc, &mut attempts)?;
+    let Resynthesized { settled, undecided } = resynthesize(alloc, &mut attempts, tell)?;
     Ok(ImprovedNet {
         net: attempts.into_net(),
         settled,
@@ -122,13 +123,13 @@ fn improved<S: Solver, T: Tell>(
     let mut moves = Moves::new(alloc, &net, settings.basis, settings.seed)?;
     let best = after_moves::<S>(&mut moves, net, settings)?;
     tell.tell(Progress::Gates(best.gates().len()));
-    let mut left = resynthesized::<S>(alloc, best, settings)?;
+    let mut left = resynthesized::<S, T>(alloc, best, settings, tell)?;
     for effort in 0..settings.effort {
         tell.tell(Progress::Gates(left.net.gates().len()));
         let work = stage_work(effort.saturating_add(1), left.net.gates().len());
         match moved::<S>(&mut moves, &left.net, settings, work)? {
             None => continue,
-            Some(smaller) => left = resynthesized::<S>(alloc, smaller, settings)?,
+            Some(smaller) => left = resynthesized::<S, T>(alloc, smaller, settings, tell)?,
         }
     }
     Ok(left)
