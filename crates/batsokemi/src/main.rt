@@ -17,10 +17,21 @@ fn words_of(rt: &HostRuntime) -> Result<Vec<String>, Status> {
     collected.map_err(|_| Status::Memory)
 }
 
+/// Reports that there are no words, by the error line of the status.
+fn report_no_words(rt: &HostRuntime, status: Status) {
+    let _ = match status {
+        Status::Memory => eprintln!(rt; "error: Memory"),
+        _ => eprintln!(rt; "error: Usage"),
+    };
+}
+
 fn main(rt: HostRuntime) -> ExitCode {
     let words = match words_of(&rt) {
         Ok(words) => words,
-        Err(status) => return ExitCode::from(status.number()),
+        Err(status) => {
+            report_no_words(&rt, status);
+            return ExitCode::from(status.number());
+        }
     };
     let mut source = InputPort::new(rt.stdin());
     let mut out = OutputPort::new(rt.stdout());

@@ -2,6 +2,7 @@
 use cdcl_core::Cdcl;
 use cert_theory::{Certificate, Verdict};
 use op_basis::Basis;
+use progress::Silent;
 use settings::Method;
 use size_loop::{Advance, SizeSearch, search};
 use std::alloc::Global;
@@ -27,7 +28,7 @@ fn searched(
     let Ok(tables) = read_tables(alloc, text) else {
         return None;
     };
-    match search::<Cdcl>(
+    match search::<Cdcl, Silent>(
         alloc,
         &tables.spec,
         Basis::new(basis),
@@ -35,6 +36,7 @@ fn searched(
         max,
         budget,
         0,
+        &Silent,
     ) {
         Ok(certificate) => Some(certificate),
         Err(_) => None,
@@ -159,7 +161,7 @@ fn has_ended(advance: &Advance) -> bool {
 
 /// Whether the next size is the last, with a chain of one step.
 fn ends(alloc: Global, search: SizeSearch) -> bool {
-    match search.advance::<Cdcl>(alloc) {
+    match search.advance::<Cdcl, Silent>(alloc, &Silent) {
         Ok(advance) => has_ended(&advance),
         Err(_) => false,
     }
@@ -171,7 +173,7 @@ fn goes_on(alloc: Global) -> bool {
         return false;
     };
     let search = SizeSearch::new(tables.spec, Basis::new(ALL), Method::Plain, 16, 100_000, 0);
-    match search.advance::<Cdcl>(alloc) {
+    match search.advance::<Cdcl, Silent>(alloc, &Silent) {
         Ok(Advance::Section { rest, section }) => ends(alloc, rest) && section.size == 0,
         _ => false,
     }

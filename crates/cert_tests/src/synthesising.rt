@@ -2,6 +2,7 @@
 use cdcl_core::Cdcl;
 use cert_theory::Verdict;
 use op_basis::Basis;
+use progress::Silent;
 use settings::{Method, MethodChoice};
 use size_loop::SizeSearch;
 use std::alloc::{AllocError, Global};
@@ -29,7 +30,7 @@ struct Synthesized {
 
 /// Appends the piece of the next size, and returns what comes after it.
 fn push_piece(alloc: Global, search: SizeSearch, whole: &mut Vec<u8>) -> Result<Next, AllocError> {
-    match next_piece::<Cdcl>(alloc, search)? {
+    match next_piece::<Cdcl, Silent>(alloc, search, &Silent)? {
         Piece::Section { search, text } => {
             whole.extend_from_slice(&text)?;
             Ok(Next::Size(search))

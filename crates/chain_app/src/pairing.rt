@@ -11,6 +11,7 @@ use command_line::{Command, read_words};
 use frame_core::{AtOnce, ErrorLine, Field, Status, perform, report_error};
 use net_theory::MOST_OF_NETLIST;
 use port_io::{Sink, Source};
+use progress::Silent;
 use std::alloc::Global;
 use std::marker::PhantomData;
 
@@ -79,6 +80,7 @@ pub fn run_pair<S: Source, O: Sink, N: Sink>(
         first,
         budget,
         solver: PhantomData::<Cdcl>,
+        tell: &Silent,
     });
     perform(alloc, &job, source, out, note)
 }

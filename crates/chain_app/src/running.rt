@@ -41,9 +41,20 @@ fn dispatch<S: Source, O: Sink, N: Sink, T: Tell>(
         Command::Agree => perform(alloc, &AtOnce(Agree), source, out, note),
         Command::Recheck => perform_stream(alloc, &Recheck(Steps), source, out, note),
         Command::RecheckDepth => perform_stream(alloc, &Recheck(Levels), source, out, note),
-        Command::Synth(settings) => perform(alloc, &Synth { settings, solver }, source, out, note),
+        Command::Synth(settings) => {
+            let job = Synth {
+                settings,
+                solver,
+                tell,
+            };
+            perform(alloc, &job, source, out, note)
+        }
         Command::LeastDepth(settings) => {
-            let job = AtOnce(LeastDepth { settings, solver });
+            let job = AtOnce(LeastDepth {
+                settings,
+                solver,
+                tell,
+            });
             perform(alloc, &job, source, out, note)
         }
         Command::Improve { format, settings } => {
@@ -56,7 +67,11 @@ fn dispatch<S: Source, O: Sink, N: Sink, T: Tell>(
             perform(alloc, &job, source, out, note)
         }
         Command::Equiv(budget) => {
-            let job = AtOnce(Equiv { budget, solver });
+            let job = AtOnce(Equiv {
+                budget,
+                solver,
+                tell,
+            });
             perform(alloc, &job, source, out, note)
         }
         Command::Gen { blocks, action } => {
@@ -71,7 +86,8 @@ fn dispatch<S: Source, O: Sink, N: Sink, T: Tell>(
 }
 
 /// Runs the command that the arguments ask for: reads `source`, writes the answer to `out`, and to `note` a
-/// report if the command makes one, and one error line if there is no answer. `improve` tells of its progress.
+/// report if the command makes one, and one error line if there is no answer. `tell` hears of the progress of `synth`,
+/// `improve` and `equiv`.
 pub fn run_telling<S: Source, O: Sink, N: Sink, T: Tell>(
     alloc: Global,
     words: &Vec<String>,

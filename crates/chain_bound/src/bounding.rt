@@ -1,5 +1,5 @@
 //! The bound: a walk over the tables of a specification, and the check of its chain.
-ghost use Rattle.std.specs.Prelude.{◌≡◌, ◌≤◌, true, length, IfSome, IfOk};
+ghost use Rattle.std.specs.Prelude.{◌≡◌, true, length, IfSome, IfOk};
 ghost use Rattle.tt_core.specs.Words.{specification};
 ghost use Rattle.op_basis.specs.Basis.{members};
 ghost use Rattle.chain_theory.specs.Agreement.{IsOver, Agrees};

@@ -1,6 +1,6 @@
 //! A net as a chain. Input k of a net has the weight 2^(k-1) in a row's number, and place 1 of a chain has the greatest
 //! weight, so that inputs change their order. The gates keep their places.
-ghost use Rattle.std.specs.Prelude.{◌≡◌, ◌≤◌, ◌+◌, length, All, IfSome, IfOk};
+ghost use Rattle.std.specs.Prelude.{◌≤◌, ◌+◌, length, All, IfSome, IfOk};
 ghost use Rattle.chain_theory.specs.Chain.{AreSteps, IsStepAt, NamesPlace};
 ghost use Rattle.chain_core.specs.Steps.{step_of, steps_of};
 

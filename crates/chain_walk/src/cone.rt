@@ -15,6 +15,21 @@ pub struct Cone {
     observed: Vec<u64>,
 }
 
+/// The values of a signal where the target is complemented.
+fn changed_row<'a>(
+    net: &'a SmallNet,
+    flipped: &'a [u64],
+    differs: &'a [bool],
+    signal: u32,
+) -> &'a [u64] {
+    if !bit_at(differs, signal) {
+        return net.row(signal);
+    }
+    let first = signal.wrapping_mul(net.words()) as usize;
+    let end = first.wrapping_add(net.words() as usize);
+    flipped.get(first..end).unwrap_or(&[])
+}
+
 impl Cone {
     /// Nothing depends on anything yet.
     pub fn new(alloc: Global) -> Cone {
@@ -52,18 +67,6 @@ impl Cone {
         Ok(())
     }
 
-    /// The word of a signal where the target is complemented.
-    fn word(&self, net: &SmallNet, signal: u32, word: u32) -> u64 {
-        if bit_at(&self.differs, signal) {
-            word_at(
-                &self.flipped,
-                signal.wrapping_mul(net.words()).wrapping_add(word),
-            )
-        } else {
-            net.word(signal, word)
-        }
-    }
-
     /// Complements the target.
     fn complement_target(&mut self, net: &SmallNet, target: u32) {
         put(&mut self.depends, target, true);
@@ -81,14 +84,17 @@ impl Cone {
     /// The values of a gate over changed operands. Says whether they are others.
     fn compute(&mut self, net: &SmallNet, signal: u32, gate: Gate) -> bool {
         let masks = gate.operator.masks();
-        let place = signal.wrapping_mul(net.words());
+        let place = signal.wrapping_mul(net.words()) as usize;
+        let Some((before, behind)) = self.flipped.split_at_mut_checked(place) else {
+            return false;
+        };
+        let first = changed_row(net, before, &self.differs, gate.first);
+        let second = changed_row(net, before, &self.differs, gate.second);
         let mut change = 0;
-        for word in 0..net.words() {
-            let first = self.word(net, gate.first, word);
-            let second = self.word(net, gate.second, word);
-            let value = masks.at(first, second);
+        for (word, slot) in (0..net.words()).zip(behind.iter_mut()) {
+            let value = masks.at(word_at(first, word), word_at(second, word));
             change |= value ^ net.word(signal, word);
-            put(&mut self.flipped, place.wrapping_add(word), value);
+            *slot = value;
         }
         change != 0
     }
@@ -109,11 +115,10 @@ impl Cone {
     /// Adds the rows in which a changed signal matters as the output `index`.
     fn observe_output(&mut self, net: &SmallNet, care: &[u64], index: u32, signal: u32) {
         let place = index.wrapping_mul(net.words());
-        for word in 0..net.words() {
-            let change = self.word(net, signal, word) ^ net.word(signal, word);
-            let observed = word_at(&self.observed, word)
-                | (change & word_at(care, place.wrapping_add(word)));
-            put(&mut self.observed, word, observed);
+        let changed = changed_row(net, &self.flipped, &self.differs, signal);
+        for (word, slot) in (0..net.words()).zip(self.observed.iter_mut()) {
+            let change = word_at(changed, word) ^ net.word(signal, word);
+            *slot |= change & word_at(care, place.wrapping_add(word));
         }
     }
 

@@ -11,7 +11,7 @@
 //! ```text
 //! let mut walk = Walk::new(alloc, basis.get(), OutputComplements::Counted, care, 1)?;
 //! walk.start(&net)?;
-//! walk.run(Limits { moves: 600, patience: 600, work: 1_000_000 })?;
+//! walk.run(Limits { moves: 600, patience: 600, enough: 0, work: 1_000_000 })?;
 //! walk.net()
 //! ```
 #![tactic(auto)]
@@ -21,6 +21,7 @@ mod change;
 mod choices;
 mod cone;
 mod divisors;
+mod matching;
 mod mffc;
 mod operator;
 mod pairs;

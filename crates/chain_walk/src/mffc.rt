@@ -12,6 +12,7 @@ use std::alloc::{AllocError, Global};
 #[derive(Drop)]
 pub struct Mffc {
     reads: Vec<u32>,
+    is_counted: bool,
     dereferenced: Vec<u32>,
     gates: Vec<u32>,
     needed: Vec<bool>,
@@ -25,6 +26,7 @@ impl Mffc {
     pub fn new(alloc: Global) -> Mffc {
         Mffc {
             reads: Vec::new(alloc),
+            is_counted: false,
             dereferenced: Vec::new(alloc),
             gates: Vec::new(alloc),
             needed: Vec::new(alloc),
@@ -36,9 +38,17 @@ impl Mffc {
         small(self.gates.len())
     }
 
+    /// The net is another one from now on.
+    pub fn forget(&mut self) {
+        self.is_counted = false;
+    }
+
     /// Makes room for the signals of a net.
     fn clear(&mut self, net: &SmallNet) -> Result<(), AllocError> {
-        net.count_reads(&mut self.reads)?;
+        if !self.is_counted {
+            net.count_reads(&mut self.reads)?;
+            self.is_counted = true;
+        }
         self.dereferenced.clear();
         self.dereferenced.resize(net.signals() as usize, 0)?;
         self.needed.clear();

@@ -41,16 +41,16 @@ impl Rebuild {
         rows::entry(&self.moved, old, NONE)
     }
 
-    /// Begins with the inputs.
-    fn begin(&mut self, net: &SmallNet) -> Result<(), AllocError> {
+    /// Begins with the signals below a target, which stay.
+    fn begin(&mut self, net: &SmallNet, target: u32) -> Result<(), AllocError> {
         self.moved.clear();
+        for signal in 0..target {
+            self.moved.push(literal_of(signal, 0))?;
+        }
         self.moved.resize(net.signals() as usize, NONE)?;
         self.plain.clear();
+        self.plain.resize(target as usize, true)?;
         self.plain.resize(net.signals() as usize, false)?;
-        for signal in 0..net.first_gate() {
-            put(&mut self.moved, signal, literal_of(signal, 0));
-            put(&mut self.plain, signal, true);
-        }
         Ok(())
     }
 
@@ -69,14 +69,15 @@ impl Rebuild {
         }
     }
 
-    /// Copies the gates outside the cone, with their values.
+    /// Copies the gates outside the cone that are behind the target, with their values.
     fn copy_outside(
         &mut self,
         net: &SmallNet,
         cone: &Cone,
+        target: u32,
         next: &mut SmallNet,
     ) -> Result<(), AllocError> {
-        for signal in net.first_gate()..net.signals() {
+        for signal in target.saturating_add(1)..net.signals() {
             if !cone.has(signal) {
                 let gate = self.plain_gate(net.gate(signal));
                 let new = next.push_copy(gate, net, signal)?;
@@ -188,9 +189,9 @@ impl Rebuild {
         change: Change,
         next: &mut SmallNet,
     ) -> Result<bool, AllocError> {
-        next.restart(net)?;
-        self.begin(net)?;
-        self.copy_outside(net, cone, next)?;
+        next.restart(net, target)?;
+        self.begin(net, target)?;
+        self.copy_outside(net, cone, target, next)?;
         let root = self.make(choices, change, next)?;
         put(&mut self.moved, target, root);
         self.move_cone(net, choices, cone, target, next)?;

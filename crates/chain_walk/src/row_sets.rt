@@ -16,21 +16,28 @@ pub struct RowSets {
     known: Vec<bool>,
 }
 
+/// Exchanges the bits of `mask` in the second words with those `distance` above them in the first words.
+fn exchange_halves(firsts: &mut [u64], seconds: &mut [u64], distance: u32, mask: u64) {
+    for (first, second) in firsts.iter_mut().zip(seconds.iter_mut()) {
+        let moved = (first.wrapping_shr(distance) ^ *second) & mask;
+        *first ^= moved.wrapping_shl(distance);
+        *second ^= moved;
+    }
+}
+
 /// Exchanges, in each square of 2 * `distance` rows and bits, the upper right quarter and the lower left one.
-fn exchange(block: &mut [u64; 64], distance: u32, mask: u64) {
-    for step in 0..SIDE / 2 {
-        let below = step & distance.wrapping_sub(1);
-        let low = step.wrapping_sub(below).wrapping_mul(2) | below;
-        let high = low | distance;
-        let (first, second) = (word_at(block, low), word_at(block, high));
-        let moved = (first.wrapping_shr(distance) ^ second) & mask;
-        put(block, low, first ^ moved.wrapping_shl(distance));
-        put(block, high, second ^ moved);
+fn exchange(block: &mut [u64], distance: u32, mask: u64) {
+    let half = distance as usize;
+    let side = half.wrapping_mul(2).max(1);
+    for square in block.chunks_exact_mut(side) {
+        if let Some((firsts, seconds)) = square.split_at_mut_checked(half) {
+            exchange_halves(firsts, seconds, distance, mask);
+        }
     }
 }
 
 /// Transposes a square of bits.
-fn transpose(block: &mut [u64; 64]) {
+fn transpose(block: &mut [u64]) {
     exchange(block, 32, 0x0000_0000_ffff_ffff);
     exchange(block, 16, 0x0000_ffff_0000_ffff);
     exchange(block, 8, 0x00ff_00ff_00ff_00ff);

@@ -5,7 +5,7 @@
 //! affair. Reading any signal is allowed: beyond the last one values are 0.
 
 use crate::operator::Operator;
-use rows::{bit_at, entry, put};
+use rows::{entry, put};
 use std::alloc::{AllocError, Global};
 
 /// No signal, and no literal.
@@ -202,26 +202,26 @@ impl SmallNet {
         Ok(())
     }
 
-    /// Makes this a net without gates and outputs over the inputs of `other`.
-    pub fn restart(&mut self, other: &SmallNet) -> Result<(), AllocError> {
+    /// Makes this the part of `other` below a signal, inputs at least, without outputs.
+    pub fn restart(&mut self, other: &SmallNet, signal: u32) -> Result<(), AllocError> {
+        let end = signal.max(other.first_gate());
         self.inputs = other.inputs;
         self.words = other.words;
-        self.gates.clear();
         self.outputs.clear();
         self.values.clear();
-        let end = other.place(other.first_gate()) as usize;
+        let values = other.place(end) as usize;
         self.values
-            .extend_from_slice(other.values.get(..end).unwrap_or(&[]))?;
+            .extend_from_slice(other.values.get(..values).unwrap_or(&[]))?;
+        self.gates.clear();
+        let gates = end.wrapping_sub(other.first_gate()) as usize;
+        self.gates
+            .extend_from_slice(other.gates.get(..gates).unwrap_or(&[]))?;
         Ok(())
     }
 
     /// Makes this a copy of `other`.
     pub fn copy_from(&mut self, other: &SmallNet) -> Result<(), AllocError> {
-        self.restart(other)?;
-        let begin = other.place(other.first_gate()) as usize;
-        self.values
-            .extend_from_slice(other.values.get(begin..).unwrap_or(&[]))?;
-        self.gates.extend_from_slice(&other.gates)?;
+        self.restart(other, other.signals())?;
         self.outputs.extend_from_slice(&other.outputs)?;
         Ok(())
     }

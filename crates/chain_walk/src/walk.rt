@@ -5,6 +5,7 @@ use crate::change::Change;
 use crate::choices::Choices;
 use crate::cone::Cone;
 use crate::divisors::Divisors;
+use crate::matching::matching_divisor;
 use crate::mffc::Mffc;
 use crate::operator::Operator;
 use crate::pairs::Pairs;
@@ -14,8 +15,7 @@ use crate::parameters::{
 };
 use crate::rebuilding::Rebuild;
 use crate::required::Required;
-use crate::row_sets::{agreeing, without_first, without_lowest};
-use crate::small_net::{SmallNet, literal_of, small};
+use crate::small_net::{SmallNet, small};
 use crate::sweeping::{OutputComplements, Sweep, cost_of, remove_output_complements};
 use rows::{Random, at, entry};
 use std::alloc::{AllocError, Global};
@@ -97,9 +97,15 @@ impl Walk {
     pub fn start(&mut self, net: &SmallNet) -> Result<(), AllocError> {
         self.net.copy_from(net)?;
         self.sweep.sweep(&mut self.net)?;
-        self.divisors.forget();
+        self.net_changed();
         self.cost = cost_of(&self.net, self.complements);
         Ok(())
+    }
+
+    /// What is known of the net holds no more.
+    fn net_changed(&mut self) {
+        self.divisors.forget();
+        self.mffc.forget();
     }
 
     /// The net.
@@ -146,8 +152,8 @@ impl Walk {
         if cost > self.cost.saturating_add(growth) {
             return Ok(false);
         }
-        self.net.copy_from(&self.next)?;
-        self.divisors.forget();
+        std::mem::swap(&mut self.net, &mut self.next);
+        self.net_changed();
         self.cost = cost;
         Ok(true)
     }
@@ -162,54 +168,15 @@ impl Walk {
         Ok(())
     }
 
-    /// The literal of a divisor, if it is the required function.
-    fn matching_literal(&self, signal: u32) -> Option<u32> {
-        let row = self.net.row(signal);
-        if self.required.is_matched_by(row, 0) {
-            return Some(literal_of(signal, 0));
-        }
-        if self.choices.absorbs() && self.required.is_matched_by(row, 1) {
-            return Some(literal_of(signal, 1));
-        }
-        None
-    }
-
-    /// The divisors that may be the required function, by one word of it.
-    fn candidates(&mut self, word: u32) -> u64 {
-        self.divisors.prepare(&self.net, word);
-        let sets = self.divisors.sets(word);
-        let (on, off) = (self.required.on(word), self.required.off(word));
-        let all = self.divisors.all();
-        let plain = agreeing(sets, off, 0, agreeing(sets, on, u64::MAX, all));
-        if self.choices.absorbs() {
-            return plain | agreeing(sets, off, u64::MAX, agreeing(sets, on, 0, all));
-        }
-        plain
-    }
-
-    /// The literal of a divisor that is the required function, from a random one on; None where there is none.
+    /// The literal of a divisor that is the required function; None where there is none.
     fn matching_divisor(&mut self) -> Option<u32> {
-        let all = self.divisors.all();
-        let rank = self.random.below(all.count_ones());
-        let candidates = self.candidates(0);
-        if candidates == 0 {
-            return None;
-        }
-        let mut left = candidates & without_first(all, rank);
-        let mut behind = candidates & !left;
-        for _tried in 0..candidates.count_ones() {
-            if left == 0 {
-                left = behind;
-                behind = 0;
-            }
-            let signal = at(self.divisors.signals(), left.trailing_zeros());
-            left = without_lowest(left);
-            let literal = self.matching_literal(signal);
-            if literal.is_some() {
-                return literal;
-            }
-        }
-        None
+        matching_divisor(
+            &self.net,
+            &self.choices,
+            &mut self.divisors,
+            &self.required,
+            &mut self.random,
+        )
     }
 
     /// How many gates a change adds or keeps.
@@ -402,7 +369,7 @@ impl Walk {
     fn go_back(&mut self, progress: &mut Progress) -> Result<(), AllocError> {
         if progress.is_kept {
             self.net.copy_from(&self.kept)?;
-            self.divisors.forget();
+            self.net_changed();
             self.cost = cost_of(&self.net, self.complements);
             progress.is_kept = false;
         }

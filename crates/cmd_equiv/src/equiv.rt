@@ -12,6 +12,7 @@ use equiv_run::{CompareError, Compared, EquivOutcome, compare_texts};
 use frame_core::{ErrorLine, Field, Refusal, Replier, Reply, Status, Stop};
 use net_core::NetError;
 use net_theory::MOST_OF_TWO;
+use progress::Tell;
 use sat_solve::Solver;
 use std::alloc::Global;
 use std::marker::PhantomData;
@@ -79,15 +80,17 @@ pub(crate) fn refusal_of(error: CompareError) -> Refusal
 
 /// The command: whether two netlists have the same outputs and next states, decided with the solver `S`.
 #[derive(Drop)]
-pub struct Equiv<S> {
+pub struct Equiv<'a, S, T> {
     /// The budget of conflicts, after which the two stay undecided. Each pair or output that is given up costs
     /// its limit, and the last search costs the clauses that it learns.
     pub budget: u32,
     /// The solver.
     pub solver: PhantomData<S>,
+    /// Who is told of the progress.
+    pub tell: &'a T,
 }
 
-impl<S: Solver> Replier for Equiv<S> {
+impl<'a, S: Solver, T: Tell> Replier for Equiv<'a, S, T> {
     ghost task = { λ job. equiv_task job.budget };
 
     ghost ready = { λ job. IsBudget job.budget };
@@ -98,7 +101,7 @@ impl<S: Solver> Replier for Equiv<S> {
 
     #[tactic(auto, using(crate::proofs::Equating::reporting))]
     fn reply(&self, alloc: Global, bytes: &[u8]) -> Result<Reply, Stop> {
-        match compare_texts::<S>(alloc, bytes, self.budget) {
+        match compare_texts::<S, T>(alloc, bytes, self.budget, self.tell) {
             Ok(compared) => Ok(reply_of(compared)),
             Err(CompareError::Memory) => Err(Stop::NoMemory),
             Err(error) => Err(Stop::NoAnswer(refusal_of(error))),

@@ -10,6 +10,7 @@ use crate::equiv::{refusal_of, reply_of};
 use equiv_run::{CompareError, ComparedTwo, compare_two, is_bare};
 use frame_core::{ErrorLine, Field, Refusal, Replier, Reply, Report, Status, Stop};
 use net_theory::MOST_OF_NETLIST;
+use progress::Tell;
 use sat_solve::Solver;
 use std::alloc::{AllocError, Global};
 use std::marker::PhantomData;
@@ -60,16 +61,18 @@ fn reply_of_two(alloc: Global, two: ComparedTwo) -> Result<Reply, AllocError>
 /// The comparison of a netlist with that of the source: whether the two have the same outputs and next states,
 /// decided with the solver `S`.
 #[derive(Drop)]
-pub struct EquivWith<'a, S> {
+pub struct EquivWith<'a, S, T> {
     /// The text of the first netlist, of at most 16 MiB.
     pub first: &'a [u8],
     /// The budget of conflicts, as of `Equiv`.
     pub budget: u32,
     /// The solver.
     pub solver: PhantomData<S>,
+    /// Who is told of the progress.
+    pub tell: &'a T,
 }
 
-impl<'a, S: Solver> Replier for EquivWith<'a, S> {
+impl<'a, S: Solver, T: Tell> Replier for EquivWith<'a, S, T> {
     ghost task = { λ job. with_task job.budget job.first.now };
 
     ghost ready = { λ job. IsBudget job.budget × (length job.first.now ≤ most_of_netlist) };
@@ -88,7 +91,7 @@ impl<'a, S: Solver> Replier for EquivWith<'a, S> {
         if second_says_nothing {
             return Err(Stop::NoAnswer(empty(b"Second")));
         }
-        match compare_two::<S>(alloc, self.first, bytes, self.budget) {
+        match compare_two::<S, T>(alloc, self.first, bytes, self.budget, self.tell) {
             Ok(two) => match reply_of_two(alloc, two) {
                 Ok(reply) => Ok(reply),
                 Err(AllocError) => Err(Stop::NoMemory),

@@ -10,6 +10,7 @@ ghost use Rattle.cmd_synth.specs.LeastDepthReport.{least_depth_task};
 use crate::synth::{refusal_of, verdict_status};
 use cmd_lines::MOST_BYTES_OF_TABLES;
 use frame_core::{Replier, Reply, Status, Stop};
+use progress::Tell;
 use sat_solve::Solver;
 use settings::SynthSettings;
 use std::alloc::Global;
@@ -44,14 +45,16 @@ fn reply_of(certificate: CertifiedDepth) -> Reply
 
 /// The command: a certificate of the fewest steps and levels for tables, searched with the solver `S`.
 #[derive(Drop)]
-pub struct LeastDepth<S> {
+pub struct LeastDepth<'a, S, T> {
     /// The settings of the search.
     pub settings: SynthSettings,
     /// The solver.
     pub solver: PhantomData<S>,
+    /// Who is told of the progress.
+    pub tell: &'a T,
 }
 
-impl<S: Solver> Replier for LeastDepth<S> {
+impl<'a, S: Solver, T: Tell> Replier for LeastDepth<'a, S, T> {
     ghost task = { λ job. least_depth_task job.settings };
 
     ghost ready = { λ job. IsInRange job.settings × (job.settings.method ≡ Named Fence) };
@@ -62,7 +65,7 @@ impl<S: Solver> Replier for LeastDepth<S> {
 
     #[tactic(auto, using(crate::proofs::LeastDepths::reporting))]
     fn reply(&self, alloc: Global, bytes: &[u8]) -> Result<Reply, Stop> {
-        match certify_depth::<S>(alloc, bytes, &self.settings) {
+        match certify_depth::<S, T>(alloc, bytes, &self.settings, self.tell) {
             Ok(certificate) => Ok(reply_of(certificate)),
             Err(SpecError::Memory) => Err(Stop::NoMemory),
             Err(error) => Err(Stop::NoAnswer(refusal_of(error))),

@@ -16,6 +16,7 @@ ghost use Rattle.frame_core.specs.Views.{refusal_value, Judges};
 use cmd_lines::{MOST_BYTES_OF_TABLES, name_spec, spec_status};
 use frame_core::{Job, Refusal, RunEnd, Status, Stop, finish};
 use port_io::{Sink, WriteFault, write_all};
+use progress::Tell;
 use sat_solve::Solver;
 use size_loop::SizeSearch;
 use std::alloc::Global;
@@ -54,13 +55,18 @@ pub(crate) enum Next {
 
 /// Searches the next size, and writes its section of the certificate.
 #[tactic(auto, using(crate::proofs::Writing::writing))]
-fn write_next<S: Solver, O: Sink>(alloc: Global, search: SizeSearch, out: &mut O) -> Next
+fn write_next<S: Solver, O: Sink, T: Tell>(
+    alloc: Global,
+    search: SizeSearch,
+    out: &mut O,
+    tell: &T,
+) -> Next
     ensures comes { (settings : SynthSettings) (bytes : List ℕ) (first : PortState) → length bytes ≤ most_of_tables →
         IsOut settings bytes first (port_state O.written O.faults out.old) search →
         IsAfterPiece settings bytes first (port_state O.written O.faults out.new) result }
     ensures up { StaysWithinMax search result }
 {
-    let Ok(piece) = next_piece::<S>(alloc, search) else {
+    let Ok(piece) = next_piece::<S, T>(alloc, search, tell) else {
         return Next::End(RunEnd::OutOfMemoryMidway);
     };
     match piece {
@@ -77,14 +83,19 @@ fn write_next<S: Solver, O: Sink>(alloc: Global, search: SizeSearch, out: &mut O
 
 /// Writes the sections of a search and the trailer, each as soon as it is found.
 #[tactic(auto, using(crate::proofs::Writing::writing))]
-fn write_sections<S: Solver, O: Sink>(alloc: Global, search: SizeSearch, out: &mut O) -> RunEnd
+fn write_sections<S: Solver, O: Sink, T: Tell>(
+    alloc: Global,
+    search: SizeSearch,
+    out: &mut O,
+    tell: &T,
+) -> RunEnd
     ensures { (settings : SynthSettings) (bytes : List ℕ) (first : PortState) → length bytes ≤ most_of_tables →
         IsOut settings bytes first (port_state O.written O.faults out.old) search →
         HasEndedAs settings bytes result first (port_state O.written O.faults out.new) }
 {
     let mut search = search;
     loop {
-        match write_next::<S, O>(alloc, search, out) {
+        match write_next::<S, O, T>(alloc, search, out, tell) {
             Next::On(next) => search = next,
             Next::End(ended) => return ended,
         }
@@ -93,10 +104,11 @@ fn write_sections<S: Solver, O: Sink>(alloc: Global, search: SizeSearch, out: &m
 
 /// Writes a certificate, from its header on.
 #[tactic(auto, using(crate::proofs::Writing::writing))]
-fn write_certificate<S: Solver, O: Sink>(
+fn write_certificate<S: Solver, O: Sink, T: Tell>(
     alloc: Global,
     begun: BegunSynthesis,
     out: &mut O,
+    tell: &T,
 ) -> RunEnd
     ensures { (settings : SynthSettings) (bytes : List ℕ) → length bytes ≤ most_of_tables →
         IsInProgress bytes settings begun.search begun.text.items →
@@ -106,7 +118,7 @@ fn write_certificate<S: Solver, O: Sink>(
     if let Err(WriteFault::WriteFault) = write_all(out, &begun.text) {
         return RunEnd::Truncated;
     }
-    write_sections::<S, O>(alloc, begun.search, out)
+    write_sections::<S, O, T>(alloc, begun.search, out, tell)
 }
 
 /// Why there is no certificate.
@@ -123,14 +135,16 @@ fn stop_of(error: SpecError) -> Stop
 
 /// The command: a certificate of the fewest steps for tables, searched with the solver `S`.
 #[derive(Drop)]
-pub struct Synth<S> {
+pub struct Synth<'a, S, T> {
     /// The settings of the search.
     pub settings: SynthSettings,
     /// The solver.
     pub solver: PhantomData<S>,
+    /// Who is told of the progress.
+    pub tell: &'a T,
 }
 
-impl<S: Solver> Job for Synth<S> {
+impl<'a, S: Solver, T: Tell> Job for Synth<'a, S, T> {
     ghost task = { λ job. synth_task job.settings };
 
     ghost ready = { λ job. IsInRange job.settings };
@@ -148,7 +162,7 @@ impl<S: Solver> Job for Synth<S> {
         note: &mut N,
     ) -> RunEnd {
         match begin(alloc, bytes, &self.settings) {
-            Ok(begun) => write_certificate::<S, O>(alloc, begun, out),
+            Ok(begun) => write_certificate::<S, O, T>(alloc, begun, out, self.tell),
             Err(error) => finish(Err(stop_of(error)), out, note),
         }
     }

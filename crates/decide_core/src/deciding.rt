@@ -9,6 +9,7 @@ ghost use Rattle.decide_core.specs.Decided.{Fewer, IsSearched, IsSized, IsShorte
 use crate::question::Question;
 use cert_theory::{Certificate, Header, Verdict};
 use chain_core::Chain;
+use progress::Silent;
 use sat_solve::Solver;
 use size_loop::{SizeOutcome, search, search_size};
 use std::alloc::{AllocError, Global};
@@ -81,7 +82,7 @@ pub(crate) fn search_whole<S: Solver>(
     ensures { IfOk result (λ searched. IsSearched question.entry.header.now searched) }
 {
     let header = question.header;
-    let certificate = search::<S>(
+    let certificate = search::<S, Silent>(
         alloc,
         &header.spec,
         header.basis,
@@ -89,6 +90,7 @@ pub(crate) fn search_whole<S: Solver>(
         header.max,
         header.conflicts,
         0,
+        &Silent,
     )?;
     if is_open(certificate.verdict) {
         return Ok(Searched::Open(certificate));

@@ -12,6 +12,7 @@ use cert_theory::{Header, LogEnd, SubproblemLog};
 use chain_core::Chain;
 use enc_fence::FenceEnc;
 use enc_theory::Subproblem;
+use progress::{Progress, Tell};
 use sat_solve::Solver;
 use size_loop::{SubproblemOutcome, try_subproblem};
 use std::alloc::{AllocError, Global};
@@ -86,13 +87,15 @@ fn try_fence<S: Solver>(
 }
 
 /// Searches those of the subproblems `subproblems` of `size` whose fences have `levels` levels, with the solver `S`.
+/// `tell` hears of each.
 #[tactic(auto, using(crate::proofs::LevelLogs::levels))]
-pub(crate) fn search_level<S: Solver>(
+pub(crate) fn search_level<S: Solver, T: Tell>(
     alloc: Global,
     header: &Header,
     size: u32,
     subproblems: &[Subproblem],
     levels: usize,
+    tell: &T,
 ) -> Result<LevelOutcome, AllocError>
     requires header { IsHeader header.now }
     requires by_fences { header.now.method ≡ Fence }
@@ -101,10 +104,20 @@ pub(crate) fn search_level<S: Solver>(
     ensures { IfOk result (λ level. IsLevel header.now size levels level) }
 {
     let mut logs = Vec::new(alloc);
-    for subproblem in with_levels(alloc, subproblems, levels)? {
+    let own = with_levels(alloc, subproblems, levels)?;
+    let all = own.len();
+    for subproblem in own {
+        tell.tell(Progress::Subproblem {
+            size,
+            number: logs.len().saturating_add(1),
+            all,
+        });
         match try_fence::<S>(alloc, header, size, subproblem)? {
             SubproblemOutcome::Found(chain) => return Ok(LevelOutcome::Found(chain)),
-            SubproblemOutcome::Logged(log) => logs.push(log)?,
+            SubproblemOutcome::Logged(log) => {
+                tell.tell(Progress::Logged(log.log.len()));
+                logs.push(log)?
+            }
         }
     }
     Ok(LevelOutcome::Logged(logs))

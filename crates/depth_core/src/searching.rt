@@ -17,6 +17,7 @@ use depth_theory::DepthVerdict;
 use enc_base::Encoding;
 use enc_fence::FenceEnc;
 use op_basis::Basis;
+use progress::Tell;
 use sat_solve::Solver;
 use settings::Method;
 use size_loop::search;
@@ -53,11 +54,12 @@ fn add_logs(logs: &mut Vec<SubproblemLog>, more: Vec<SubproblemLog>) -> Result<(
 /// Searches the fences of `size` with fewer levels than `chain` has, level by level. The first chain found is the
 /// flattest. The result has it and the logs of all fences with fewer levels.
 #[tactic(auto, using(crate::proofs::LevelLogs::flattening))]
-fn flatten<S: Solver>(
+fn flatten<S: Solver, T: Tell>(
     alloc: Global,
     header: &Header,
     size: u32,
     chain: Chain,
+    tell: &T,
 ) -> Result<FlattestChain, AllocError>
     requires header { IsHeader header.now }
     requires by_fences { header.now.method ≡ Fence }
@@ -70,7 +72,7 @@ fn flatten<S: Solver>(
     let subproblems = FenceEnc.subproblems(alloc, &header.spec, size)?;
     let mut logs = Vec::new(alloc);
     for levels in 0..deepest {
-        match search_level::<S>(alloc, header, size, &subproblems, levels as usize)? {
+        match search_level::<S, T>(alloc, header, size, &subproblems, levels as usize, tell)? {
             LevelOutcome::Found(chain) => {
                 let levels = depth_of(alloc, &chain)?;
                 let kept = flatter_than(alloc, logs, levels as usize)?;
@@ -116,12 +118,13 @@ fn minimum_in(certificate: &Certificate) -> Option<u32>
 
 /// The depth certificate for a certificate whose verdict is a minimum.
 #[tactic(auto, using(crate::proofs::LevelLogs::bundling))]
-fn least<S: Solver>(
+fn least<S: Solver, T: Tell>(
     alloc: Global,
     header: Header,
     sections: Vec<Section>,
     chain: Chain,
     size: u32,
+    tell: &T,
 ) -> Result<DepthResult, AllocError>
     requires by_fences { header.method ≡ Fence }
     requires searched { AreSearched header sections.items chain size }
@@ -131,7 +134,7 @@ fn least<S: Solver>(
         chain,
         subproblems,
         levels,
-    } = flatten::<S>(alloc, &header, size, chain)?;
+    } = flatten::<S, T>(alloc, &header, size, chain, tell)?;
     let verdict = verdict_of(&subproblems, levels);
     let certificate = Certificate {
         header,
@@ -149,10 +152,11 @@ fn least<S: Solver>(
 /// The depth certificate for a certificate whose verdict is a minimum of `size` steps: takes it apart and searches
 /// on.
 #[tactic(auto, using(crate::proofs::LevelLogs::searching))]
-fn deepened<S: Solver>(
+fn deepened<S: Solver, T: Tell>(
     alloc: Global,
     certificate: Certificate,
     size: u32,
+    tell: &T,
 ) -> Result<DepthResult, AllocError>
     requires by_fences { certificate.header.method ≡ Fence }
     requires valid { IsValid certificate }
@@ -167,7 +171,7 @@ fn deepened<S: Solver>(
         verdict: _,
     } = certificate;
     match chain {
-        Some(chain) => least::<S>(alloc, header, sections, chain, size),
+        Some(chain) => least::<S, T>(alloc, header, sections, chain, size, tell),
         None => unreachable!(),
     }
 }
@@ -175,15 +179,17 @@ fn deepened<S: Solver>(
 /// Searches the sizes from 0 to `max` by fences with the solver `S` for a chain of the fewest steps over the basis
 /// that implements the tables, and among the chains of that size for one of the fewest levels. A subproblem is
 /// left open once the solver has learnt at least `budget` clauses. `effort` is a factor for the work of the walks, 0
-/// for no walk. The basis isn't empty, and `max` and `budget` are in the ranges of `settings`.
+/// for no walk. The basis isn't empty, and `max` and `budget` are in the ranges of `settings`. `tell` hears of each
+/// subproblem.
 #[tactic(auto, using(crate::proofs::LevelLogs::searching))]
-pub fn least_depth<S: Solver>(
+pub fn least_depth<S: Solver, T: Tell>(
     alloc: Global,
     spec: &Spec,
     basis: Basis,
     max: u32,
     budget: u32,
     effort: u32,
+    tell: &T,
 ) -> Result<DepthResult, AllocError>
     requires settings { IsInRange (record {
       basis = basis;
@@ -200,9 +206,9 @@ pub fn least_depth<S: Solver>(
       max = max;
     }) deep) }
 {
-    let certificate = search::<S>(alloc, spec, basis, Method::Fence, max, budget, effort)?;
+    let certificate = search::<S, T>(alloc, spec, basis, Method::Fence, max, budget, effort, tell)?;
     match minimum_in(&certificate) {
-        Some(size) => deepened::<S>(alloc, certificate, size),
+        Some(size) => deepened::<S, T>(alloc, certificate, size, tell),
         None => Ok(DepthResult::Other(certificate)),
     }
 }

@@ -1,3 +1,4 @@
 pub mod Laying
 pub mod Spelled
 pub mod Skipped
+pub mod Paired

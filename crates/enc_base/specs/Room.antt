@@ -49,6 +49,10 @@ pub record HasSlots (z : Dimensions) (vars : ℕ) (s : StepSlots) : Type 0 where
   pub place : IsPlace z s.place
   pub slots : All (IsSlot vars s.place) s.slots
 
+-- the pairs of a step have places below it, and variables of the formula
+pub record HasPairs (vars : ℕ) (s : StepSlots) : Type 0 where
+  pub each : All (IsSlot vars s.place) s.slots
+
 -- the sizes are those of the tables
 pub record AreFor (z : Dimensions) (w : Words) : Type 0 where
   pub inputs : z.n ≡ w.n

@@ -4,7 +4,7 @@ ghost use Rattle.clause_core.specs.Clauses.{Appends};
 ghost use Rattle.enc_theory.specs.Families.{out_exists_at, out_exists, out_value_is, out_value, out_values_of};
 ghost use Rattle.enc_theory.specs.Families.{out_values_at, out_values, pair_exists_at, pair_exists, operator_raw};
 ghost use Rattle.enc_theory.specs.Families.{operator_clause, operators_at, operators, common};
-ghost use Rattle.enc_base.specs.Room.{HasRoom, IsPlace, HasSlots, AreFor};
+ghost use Rattle.enc_base.specs.Room.{HasRoom, IsPlace, HasSlots, HasPairs, AreFor};
 
 use crate::layout::StepSlots;
 use crate::values::push_values;
@@ -165,11 +165,9 @@ unfolding(enc_theory::specs::Families::pair_exists_at, enc_theory::specs::Famili
 fn push_pair_exists_at(
     alloc: Global,
     list: &mut ClauseList,
-    z: Dimensions,
     step: &StepSlots,
 ) -> Result<(), AllocError>
-    requires room { HasRoom z list.old.vars }
-    requires slots { HasSlots z list.old.vars step.now }
+    requires { HasPairs list.old.vars step.now }
     ensures { OnOk result (Appends list.old list.new (pair_exists_at step.now)) }
 {
     let mut raws = Vec::new(alloc);
@@ -184,15 +182,13 @@ fn push_pair_exists_at(
 fn push_pair_exists(
     alloc: Global,
     list: &mut ClauseList,
-    z: Dimensions,
     steps: &[StepSlots],
 ) -> Result<(), AllocError>
-    requires room { HasRoom z list.old.vars }
-    requires slots { All (HasSlots z list.old.vars) steps.now }
+    requires { All (HasPairs list.old.vars) steps.now }
     ensures { OnOk result (Appends list.old list.new (pair_exists steps.now)) }
 {
     for step in steps {
-        push_pair_exists_at(alloc, list, z, step)?;
+        push_pair_exists_at(alloc, list, step)?;
     }
     Ok(())
 }
@@ -264,7 +260,7 @@ pub fn push_operators(
 /// Writes the clauses that define chains, for tables whose outputs are all live: some step drives each output
 /// and has the values of its cells; each step has some pair, its operator's values at that pair, and an
 /// operator of the basis.
-#[tactic(auto, unfolding(enc_theory::specs::Families::common))]
+#[tactic(auto, using(crate::proofs::Paired::families), unfolding(enc_theory::specs::Families::common))]
 pub fn push_common(
     alloc: Global,
     list: &mut ClauseList,
@@ -280,7 +276,7 @@ pub fn push_common(
 {
     push_out_exists(alloc, list, z)?;
     push_out_values(alloc, list, spec, z)?;
-    push_pair_exists(alloc, list, z, steps)?;
+    push_pair_exists(alloc, list, steps)?;
     push_values(alloc, list, z, steps)?;
     push_operators(alloc, list, basis, z)
 }

@@ -10,7 +10,7 @@
 //! ```
 //!
 //! `formula_with_cuts` makes a formula of both. The constraints that don't mention pairs are public for
-//! `enc_select` (MSV: multiple selection variables).
+//! `enc_select` (MSV: multiple selection variables), and what `enc_strong` says of pairs as well.
 //!
 //! The constraints, and their names in the literature:
 //!
@@ -43,9 +43,10 @@ pub use crate::formula::formula_with_cuts;
 use crate::no_reapplication::push_no_reapplication;
 use crate::order::push_order;
 pub use crate::row_zero::push_row_0;
-pub use crate::slots::push_drivers;
+pub use crate::slots::{push_drivers, push_not_both, reads};
 use crate::trivial::push_not_trivial;
 pub use crate::trivial::{push_not_idle, push_operator};
+pub use crate::used::push_readers;
 use crate::used::push_used;
 use clause_core::ClauseList;
 use enc_base::StepSlots;

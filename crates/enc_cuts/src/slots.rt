@@ -12,7 +12,7 @@ use enc_theory::{Dimensions, Slot};
 use std::alloc::{AllocError, Global};
 
 /// Whether the place is an operand of the pair.
-pub(crate) fn reads(slot: Slot, place: u32) -> bool
+pub fn reads(slot: Slot, place: u32) -> bool
     ensures { result ≡ reads_of slot place }
 {
     slot.j == place || slot.k == place
@@ -41,7 +41,7 @@ pub fn push_drivers(raws: &mut Vec<RawLit>, z: Dimensions, place: u32) -> Result
 
 /// The clause "not both pairs".
 #[tactic(auto, unfolding(enc_theory::specs::Cuts::not_both))]
-pub(crate) fn push_not_both(
+pub fn push_not_both(
     alloc: Global,
     list: &mut ClauseList,
     u: Slot,

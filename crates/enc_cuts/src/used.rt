@@ -25,7 +25,7 @@ fn push_reader(raws: &mut Vec<RawLit>, place: u32, slot: Slot) -> Result<(), All
 
 /// Adds the selection literals of a step's pairs with the place.
 #[tactic(auto, using(clause_core::specs::RangeLaws::loops), unfolding(enc_theory::specs::Cuts::readers))]
-fn push_readers(raws: &mut Vec<RawLit>, place: u32, step: &StepSlots) -> Result<(), AllocError>
+pub fn push_readers(raws: &mut Vec<RawLit>, place: u32, step: &StepSlots) -> Result<(), AllocError>
     ensures { OnOk result (raws.new.items ≡ raws.old.items ++ readers place step.now) }
 {
     for slot in step.slots() {

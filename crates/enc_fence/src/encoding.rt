@@ -38,7 +38,7 @@ fn levels_in(subproblem: &Subproblem) -> &[u32]
 }
 
 /// The pairs that the steps of chains over `n` inputs may have in a subproblem's fence.
-fn pairs_in(n: u32, basis: Basis, subproblem: &Subproblem) -> FencePairs<'_>
+pub fn pairs_in(n: u32, basis: Basis, subproblem: &Subproblem) -> FencePairs<'_>
     ensures n { result.n ≡ n }
     ensures ordered { result.ordered ≡ swap_closed (members basis) }
     ensures levels { result.levels.now ≡ fence_in subproblem.now }

@@ -7,6 +7,7 @@
 //! (`fence_core::fences`).
 //!
 //! - `FenceEnc` is the encoding; its law `complete` is about the fence of a minimum chain.
+//! - `pairs_in` gives the pairs of a fence, for `enc_strong` too.
 //! - `levels` gives the level of each step of a chain.
 #![tactic(auto)]
 
@@ -14,5 +15,5 @@ mod encoding;
 mod pairs;
 
 pub use chain_core::levels;
-pub use encoding::FenceEnc;
+pub use encoding::{FenceEnc, pairs_in};
 pub use pairs::FencePairs;

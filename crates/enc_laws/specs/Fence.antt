@@ -21,9 +21,8 @@ use Rattle.sat_theory.specs.Formula.{IsFormula, Assignment, Satisfies}
 use Rattle.tt_core.specs.Words.{Words, specification}
 use Rattle.tt_core.specs.Live.{live_words}
 use Rattle.clause_core.specs.Clauses.{IsSatisfiable}
-use Rattle.enc_theory.specs.Numbering.{sizes_of}
-use Rattle.enc_theory.specs.Pairs.{pair, pairs_with, StepSlots}
-use Rattle.enc_theory.specs.Fence.{places_under, fence_pairs, fence_layout, fence_live, fence_formula, fence_decoded}
+use Rattle.enc_theory.specs.Pairs.{pair, pairs_with}
+use Rattle.enc_theory.specs.Fence.{places_under, fence_pairs, fence_live, fence_formula, fence_decoded}
 use Rattle.clause_core.specs.Holds.{flat_map_get, flat_map_make, range_contains, range_inside}
 use Rattle.enc_laws.specs.Layouts.{AreBelow, pairs_with_below, pair_with_larger}
 use Rattle.enc_laws.specs.Live.{picked}
@@ -135,13 +134,12 @@ level_is c fence stands p from low = ⊎_elim
     (place_cases c.n (length c.steps) p low)
 
 -- The pairs of a chain in normal form, in its fence, are those of the encoding.
-stands_allowed : (w : Words) (basis r : ℕ) (c : Chain) (fence : List ℕ) → IsFor w basis r c →
+pub stands_allowed : (w : Words) (basis r : ℕ) (c : Chain) (fence : List ℕ) → IsFor w basis r c →
     IsNormalForm (members basis) (specification w) c → IsInFence c fence →
     IsAllowed (fence_pairs (swap_closed (members basis)) w.n fence) w r c
 unfolding fence_pairs
 stands_allowed w basis r c fence is normal_form stands = record {
   each = λ i place.
-      let steps : List StepSlots = fence_layout basis fence (sizes_of w r) in
       let a : Step = step_at c i in
       let below = step_below w basis r c is i place in
       let at = step_there w basis r c is i place in

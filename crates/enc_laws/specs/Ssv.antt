@@ -18,7 +18,8 @@ use Rattle.enc_laws.specs.Complete.{step_at, step_below, step_there}
 use Rattle.enc_laws.specs.Laws.{IsAllowed}
 use Rattle.enc_laws.specs.ByPairs.{part_minimum, by_pairs_decodes, normal_form_satisfies, by_pairs_is_formula}
 
-pairs_low : (basis : ℕ) (w : Words) → AreBelow w.n (pairs_below (swap_closed (members basis)))
+-- the pairs below a place are of lower places
+pub pairs_low : (basis : ℕ) (w : Words) → AreBelow w.n (pairs_below (swap_closed (members basis)))
 pairs_low basis w = pairs_are_below (swap_closed (members basis)) w.n
 
 -- A satisfying assignment spells a chain of r steps over the basis that implements the tables.
@@ -31,7 +32,7 @@ pub ssv_sound : (w : Words) (basis r : ℕ) → IsSatisfiable (ssv_formula w bas
 ssv_sound w basis r (v, satisfies) = for_is_there w basis r (ssv_decoded w basis r v) (ssv_decodes w basis r v satisfies)
 
 -- the pairs of a chain in normal form are those of the encoding
-normal_form_allowed : (w : Words) (basis r : ℕ) (c : Chain) → IsFor w basis r c → IsNormalForm (members basis) (specification w) c → IsAllowed (pairs_below (swap_closed (members basis))) w r c
+pub normal_form_allowed : (w : Words) (basis r : ℕ) (c : Chain) → IsFor w basis r c → IsNormalForm (members basis) (specification w) c → IsAllowed (pairs_below (swap_closed (members basis))) w r c
 normal_form_allowed w basis r c is normal_form = record {
   each = λ i place.
       let below = step_below w basis r c is i place in

@@ -3,7 +3,6 @@
 ghost use Rattle.std.specs.Prelude.{◌≡◌, ℕ, ◌+◌, ◌<◌, ◌≤◌, ◌++◌, not, All, OnOk, IfOk, if◌then◌else◌};
 ghost use Rattle.std.specs.List.{flat_map};
 ghost use Rattle.clause_core.specs.Clauses.{Appends, IsWithin};
-ghost use Rattle.enc_theory.specs.Cuts.{reads as reads_of, reader, readers};
 ghost use Rattle.enc_base.specs.Room.{HasRoom, IsPlace, IsSlot, HasSlots};
 ghost use Rattle.enc_cuts.specs.Vars.{HasVar};
 ghost use Rattle.strong_theory.specs.Strong.{d_var as d_var_of, differs as differs_of, value_differs, values_differ};
@@ -13,6 +12,7 @@ ghost use Rattle.enc_strong.specs.Room.{HasEdge};
 
 use clause_core::{ClauseList, RawLit};
 use enc_base::{StepSlots, x_is};
+use enc_cuts::{push_readers, reads};
 use enc_theory::{Dimensions, Slot};
 use std::alloc::{AllocError, Global};
 use strong_theory::Edge;
@@ -147,36 +147,6 @@ fn push_operands_differ(
 {
     for slot in step.slots() {
         push_operand_differs(alloc, list, z, at, step.place(), *slot)?;
-    }
-    Ok(())
-}
-
-/// Whether the place is an operand of the pair.
-fn reads(slot: Slot, place: u32) -> bool
-    ensures { result ≡ reads_of slot place }
-{
-    slot.j == place || slot.k == place
-}
-
-/// Adds the pair's selection literal if the pair has the place.
-#[tactic(auto, unfolding(enc_theory::specs::Cuts::reader, enc_theory::specs::Families::chosen))]
-fn push_reader(raws: &mut Vec<RawLit>, place: u32, slot: Slot) -> Result<(), AllocError>
-    ensures { OnOk result (raws.new.items ≡ raws.old.items ++ reader place slot) }
-{
-    if !reads(slot, place) {
-        return Ok(());
-    }
-    raws.push(RawLit::Var(slot.var, true))?;
-    Ok(())
-}
-
-/// Adds the selection literals of a step's pairs with the place.
-#[tactic(auto, using(clause_core::specs::RangeLaws::loops), unfolding(enc_theory::specs::Cuts::readers))]
-fn push_readers(raws: &mut Vec<RawLit>, place: u32, step: &StepSlots) -> Result<(), AllocError>
-    ensures { OnOk result (raws.new.items ≡ raws.old.items ++ readers place step.now) }
-{
-    for slot in step.slots() {
-        push_reader(raws, place, *slot)?;
     }
     Ok(())
 }

@@ -2,12 +2,12 @@
 ghost use Rattle.std.specs.Prelude.{◌≡◌, All, OnOk};
 ghost use Rattle.std.specs.List.{flat_map};
 ghost use Rattle.clause_core.specs.Clauses.{Appends};
-ghost use Rattle.enc_theory.specs.Cuts.{not_both};
 ghost use Rattle.enc_cuts.specs.Vars.{HasVar, HaveVars};
 ghost use Rattle.strong_theory.specs.Strong.{precedes as precedes_of, one_of, one_pair_slot, one_pair_step, one_pair};
 
-use clause_core::{ClauseList, RawLit};
+use clause_core::ClauseList;
 use enc_base::StepSlots;
+use enc_cuts::push_not_both;
 use enc_theory::Slot;
 use std::alloc::{AllocError, Global};
 
@@ -17,19 +17,6 @@ fn precedes(u: Slot, v: Slot) -> bool
     ensures { result ≡ precedes_of u v }
 {
     u.j < v.j || (u.j == v.j && u.k < v.k)
-}
-
-/// The clause "not both pairs".
-#[tactic(auto, unfolding(enc_theory::specs::Cuts::not_both))]
-fn push_not_both(alloc: Global, list: &mut ClauseList, u: Slot, v: Slot) -> Result<(), AllocError>
-    requires first { HasVar list.old.vars u }
-    requires second { HasVar list.old.vars v }
-    ensures { OnOk result (Appends list.old list.new (not_both u v)) }
-{
-    list.push(
-        alloc,
-        &[RawLit::Var(u.var, false), RawLit::Var(v.var, false)],
-    )
 }
 
 /// The clause of two pairs, if the first comes before the second.

@@ -1,15 +1,11 @@
 //! The encoding by fences strengthened: one formula for each listed fence. What satisfies it satisfies the fence's
 //! formula, so it spells that encoding's chain.
-ghost use Rattle.std.specs.Prelude.{◌≡◌};
-ghost use Rattle.op_basis.specs.Basis.{members};
-ghost use Rattle.op_basis.specs.Closed.{swap_closed};
-ghost use Rattle.enc_theory.specs.Subproblems.{fence_in};
 
 use crate::formula::formula_over;
 use chain_core::Chain;
 use cnf_core::{Assign, Cnf};
 use enc_base::Encoding;
-use enc_fence::{FenceEnc, FencePairs};
+use enc_fence::{FenceEnc, pairs_in};
 use enc_theory::Subproblem;
 use op_basis::Basis;
 use std::alloc::{AllocError, Global};
@@ -19,30 +15,6 @@ use tt_core::Spec;
 /// has one subproblem for each listed fence of the live outputs, in lexicographic order.
 #[derive(Clone, Copy)]
 pub struct StrongFence;
-
-/// The numbers of steps on the levels of a subproblem's fence.
-#[tactic(auto, unfolding(enc_theory::specs::Subproblems::fence_in))]
-fn levels_in(subproblem: &Subproblem) -> &[u32]
-    ensures { result.now ≡ fence_in subproblem.now }
-{
-    match subproblem {
-        Subproblem::Levels(fence) => fence.levels(),
-        Subproblem::Whole => &[],
-    }
-}
-
-/// The pairs that the steps of chains over `n` inputs may have in a subproblem's fence.
-fn pairs_in(n: u32, basis: Basis, subproblem: &Subproblem) -> FencePairs<'_>
-    ensures n { result.n ≡ n }
-    ensures ordered { result.ordered ≡ swap_closed (members basis) }
-    ensures levels { result.levels.now ≡ fence_in subproblem.now }
-{
-    FencePairs {
-        n,
-        ordered: basis.swap_closed(),
-        levels: levels_in(subproblem),
-    }
-}
 
 impl Encoding for StrongFence {
     ghost use Rattle.enc_theory.specs.Subproblems.{subproblems_for, fence_in};

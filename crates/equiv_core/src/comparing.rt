@@ -23,6 +23,7 @@ use crate::mitering::miter;
 use crate::values::first_difference;
 use cnf_core::{Assign, Cnf};
 use net_core::{Circuit, Net};
+use progress::Tell;
 use sat_solve::{Solved, Solver};
 use sat_sweep::{Swept, sweep};
 use std::alloc::{AllocError, Global};
@@ -89,13 +90,14 @@ fn simulated(
 /// Sweeps two nets with `solver`, a solver of their miter, until its log has `most` additions. Returns a
 /// counterexample, or else the number of conflicts of the budget that were spent. The solver stays a solver of its
 /// formula.
-fn swept<S: Solver>(
+fn swept<S: Solver, T: Tell>(
     alloc: Global,
     first: &Net,
     second: &Net,
     solver: &mut S,
     budget: u32,
     most: u32,
+    tell: &T,
 ) -> Result<(Option<Counterexample>, u32), AllocError>
     requires comparable { AreComparable first.now second.now }
     requires small { IsSmall first.now }
@@ -107,7 +109,7 @@ fn swept<S: Solver>(
         max (S.additions_of solver.old) (most_after most (S.vars_of solver.old))) }
     ensures differ { IfOk result (λ r. IfSome r.0 (λ d. IsCounterexample first.now second.now d.sink d.at)) }
 {
-    match sweep(alloc, first, second, solver, budget, most)? {
+    match sweep(alloc, first, second, solver, budget, most, tell)? {
         Swept::Differ(at) => {
             let difference = simulated(alloc, first, second, at)?;
             Ok((difference, 0))
@@ -181,12 +183,13 @@ fn finished<S: Solver>(
 
 /// The answer of the solver `S` on the miter `cnf` of two nets, after a sweep.
 #[tactic(auto, using(crate::specs::SinkLaws::miter_variables))]
-pub(crate) fn compare<S: Solver>(
+pub(crate) fn compare<S: Solver, T: Tell>(
     alloc: Global,
     first: &Net,
     second: &Net,
     cnf: &Cnf,
     budget: u32,
+    tell: &T,
 ) -> Result<EquivResult, AllocError>
     requires comparable { AreComparable first.now second.now }
     requires small { IsSmall first.now }
@@ -206,7 +209,7 @@ pub(crate) fn compare<S: Solver>(
     let mut solver = S::new(alloc, cnf, budget)?;
     let share = share_of(budget);
     let most = share.saturating_add(free);
-    let (difference, spent) = swept(alloc, first, second, &mut solver, share, most)?;
+    let (difference, spent) = swept(alloc, first, second, &mut solver, share, most, tell)?;
     if let Some(Counterexample { sink, at }) = difference {
         return Ok(EquivResult::Differ { sink, at });
     }
@@ -222,13 +225,15 @@ pub(crate) fn compare<S: Solver>(
 ///
 /// They are equal only with a log that refutes their miter, which anybody can check. They differ only with an
 /// input that shows it, at the first sink that differs. They are undecided only with a log that has spent the
-/// budget. Circuits of different interfaces aren't compared; no others are refused, but if memory runs out.
+/// budget. Circuits of different interfaces aren't compared; no others are refused, but if memory runs out. `tell`
+/// hears of each gate that the sweep compares.
 #[tactic(auto, using(equiv_theory::specs::CircuitLaws::comparable))]
-pub fn equiv<S: Solver>(
+pub fn equiv<S: Solver, T: Tell>(
     alloc: Global,
     first: &Circuit,
     second: &Circuit,
     budget: u32,
+    tell: &T,
 ) -> Result<EquivResult, EquivError>
     requires first { IsProper first.now }
     requires second { IsProper second.now }
@@ -256,5 +261,5 @@ pub fn equiv<S: Solver>(
         return Err(EquivError::DifferentInterface);
     }
     let cnf = miter(alloc, first, second)?;
-    Ok(compare::<S>(alloc, &first.net, &second.net, &cnf, budget)?)
+    Ok(compare::<S, T>(alloc, &first.net, &second.net, &cnf, budget, tell)?)
 }

@@ -9,7 +9,7 @@
 //! definition.
 //!
 //! ```text
-//! match equiv::<Cdcl>(alloc, &first, &second, 100000)? {
+//! match equiv::<Cdcl, Silent>(alloc, &first, &second, 100000, &Silent)? {
 //!     EquivResult::Equal(log) => ..,           // refutes `miter(alloc, &first, &second)?`
 //!     EquivResult::Differ { sink, at } => ..,  // sink 1 is the first output
 //!     EquivResult::Undecided(log) => ..,

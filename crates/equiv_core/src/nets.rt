@@ -12,6 +12,7 @@ use crate::comparing::compare;
 use crate::exhaustive::{agree, are_narrow};
 use crate::mitering::miter_nets;
 use net_core::Net;
+use progress::Silent;
 use sat_solve::Solver;
 use std::alloc::{AllocError, Global};
 
@@ -43,7 +44,7 @@ pub fn equal_nets<S: Solver>(
         return agree(alloc, first, second);
     }
     let cnf = miter_nets(alloc, first, second)?;
-    match compare::<S>(alloc, first, second, &cnf, budget)? {
+    match compare::<S, Silent>(alloc, first, second, &cnf, budget, &Silent)? {
         EquivResult::Equal(_) => Ok(true),
         EquivResult::Differ { sink: _, at: _ } => Ok(false),
         EquivResult::Undecided(_) => Ok(false),

@@ -9,7 +9,8 @@
 //! runs out.
 //!
 //! ```text
-//! let compared = compare_texts::<Cdcl>(alloc, b".inputs a\n..\n.end\n.inputs a\n..\n.end\n", 100000)?;
+//! let texts = b".inputs a\n..\n.end\n.inputs a\n..\n.end\n";
+//! let compared = compare_texts::<Cdcl, Silent>(alloc, texts, 100000, &Silent)?;
 //! compared.text // "differ output y\nat 11\n"
 //! ```
 //!

@@ -16,6 +16,7 @@ use crate::splitting::split;
 use crate::writing::{differ_text, logged_text_of};
 use blif_core::{Circuit, NetError, read_blif};
 use equiv_core::{EquivError, EquivResult, equiv};
+use progress::Tell;
 use sat_solve::Solver;
 use std::alloc::Global;
 
@@ -50,11 +51,12 @@ pub(crate) fn read_second(alloc: Global, bytes: &[u8]) -> Result<Circuit, Compar
 using(crate::specs::CircuitAnswers::answer_equal, crate::specs::CircuitAnswers::answer_differ, // for the prover
 crate::specs::CircuitAnswers::answer_undecided), unfolding(crate::specs::Texts::equal_text, // for the prover
 crate::specs::Texts::undecided_text))]
-pub(crate) fn compare_circuits<S: Solver>(
+pub(crate) fn compare_circuits<S: Solver, T: Tell>(
     alloc: Global,
     first: &Circuit,
     second: &Circuit,
     conflicts: u32,
+    tell: &T,
 ) -> Result<Compared, CompareError>
     requires first { IsProper first.now }
     requires second { IsProper second.now }
@@ -64,7 +66,7 @@ pub(crate) fn compare_circuits<S: Solver>(
     ensures reported { IfOk result (λ c. IsCircuitAnswer conflicts first.now second.now c.text.items c.outcome) }
     ensures refused { IfErr result (IsOther first.now second.now) }
 {
-    match equiv::<S>(alloc, first, second, conflicts) {
+    match equiv::<S, T>(alloc, first, second, conflicts, tell) {
         Ok(EquivResult::Equal(log)) => {
             let text = logged_text_of(alloc, b"equal\n", &log)?;
             Ok(Compared {
@@ -104,11 +106,13 @@ pub(crate) fn compare_circuits<S: Solver>(
 ///
 /// A text that isn't two netlists is refused with its first fault: no second netlist, the first fault of the
 /// first, the first fault of the second, whose lines are numbered from 1, or different interfaces. Two netlists of
-/// one interface are refused only if memory runs out. `NoSecond` is answered before any memory is allocated.
-pub fn compare_texts<S: Solver>(
+/// one interface are refused only if memory runs out. `NoSecond` is answered before any memory is allocated. `tell`
+/// hears of each gate that is compared.
+pub fn compare_texts<S: Solver, T: Tell>(
     alloc: Global,
     bytes: &[u8],
     conflicts: u32,
+    tell: &T,
 ) -> Result<Compared, CompareError>
     requires small { length bytes.now ≤ most_of_two }
     requires budget { (1 ≤ conflicts) × (conflicts ≤ most_conflicts) }
@@ -122,6 +126,6 @@ pub fn compare_texts<S: Solver>(
     let (front, after) = bytes.split_at(place);
     let first = read_first(alloc, front)?;
     let second = read_second(alloc, after)?;
-    let compared = compare_circuits::<S>(alloc, &first, &second, conflicts)?;
+    let compared = compare_circuits::<S, T>(alloc, &first, &second, conflicts, tell)?;
     Ok(compared)
 }

@@ -7,6 +7,7 @@ ghost use Rattle.equiv_run.specs.Two.{lacks_sinks as lacks_sinks_of, IsTwoAnswer
 use crate::answer::{CompareError, ComparedTwo};
 use crate::reading::{compare_circuits, read_first, read_second};
 use blif_core::Circuit;
+use progress::Tell;
 use sat_solve::Solver;
 use std::alloc::Global;
 
@@ -22,12 +23,14 @@ fn lacks_sinks(circuit: &Circuit) -> bool
 /// says whether the first has no output and no latch; the second then has none either, and nothing is compared.
 ///
 /// Two texts that can't be compared are refused with the first fault of the first, that of the second, or different
-/// interfaces, never with `NoSecond`. Two netlists of one interface are refused only if memory runs out.
-pub fn compare_two<S: Solver>(
+/// interfaces, never with `NoSecond`. Two netlists of one interface are refused only if memory runs out. `tell`
+/// hears of each gate that is compared.
+pub fn compare_two<S: Solver, T: Tell>(
     alloc: Global,
     first: &[u8],
     second: &[u8],
     conflicts: u32,
+    tell: &T,
 ) -> Result<ComparedTwo, CompareError>
     requires first { length first.now ≤ most_of_two }
     requires second { length second.now ≤ most_of_two }
@@ -39,7 +42,7 @@ pub fn compare_two<S: Solver>(
 {
     let one = read_first(alloc, first)?;
     let other = read_second(alloc, second)?;
-    let compared = compare_circuits::<S>(alloc, &one, &other, conflicts)?;
+    let compared = compare_circuits::<S, T>(alloc, &one, &other, conflicts, tell)?;
     let no_sink = lacks_sinks(&one);
     Ok(ComparedTwo { compared, no_sink })
 }

@@ -9,6 +9,7 @@ use blif_core::{Circuit, read_blif};
 use cdcl_core::Cdcl;
 use cnf_core::{Clause, Cnf};
 use equiv_core::{EquivError, EquivResult, equiv, miter};
+use progress::Silent;
 use std::alloc::Global;
 
 /// Whether a circuit has few sources and sinks.
@@ -122,7 +123,7 @@ fn compare(alloc: Global, first: &Circuit, second: &Circuit, budget: u32, wanted
     if budget == 0 || budget > 1000 {
         return false;
     }
-    match equiv::<Cdcl>(alloc, first, second, budget) {
+    match equiv::<Cdcl, Silent>(alloc, first, second, budget, &Silent) {
         Ok(answer) => meets(&answer, wanted) && is_mitered(alloc, first, second, wanted),
         Err(error) => is_refused(error, wanted),
     }

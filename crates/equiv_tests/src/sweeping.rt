@@ -5,6 +5,7 @@ ghost use Rattle.std.specs.Prelude.{◌≡◌};
 use crate::circuits::circuit;
 use cnf_core::{Cnf, Lit};
 use net_core::{Gate, Net, Sig};
+use progress::Silent;
 use sat_solve::{AssumptionResult, Cones, Solved, Solver};
 use sat_sweep::{Swept, sweep};
 use std::alloc::{AllocError, Global};
@@ -171,7 +172,7 @@ fn merged(alloc: Global, first: &Net, second: &Net) -> Result<Option<u32>, Alloc
         half: false,
         merged: 0,
     };
-    match sweep(alloc, first, second, &mut tables, 1000, 1000)? {
+    match sweep(alloc, first, second, &mut tables, 1000, 1000, &Silent)? {
         Swept::Swept { spent: 0 } => Ok(Some(tables.merged)),
         _ => Ok(None),
     }

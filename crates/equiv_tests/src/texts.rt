@@ -3,6 +3,7 @@
 
 use cdcl_core::Cdcl;
 use equiv_run::{CompareError, NetError, compare_texts, split};
+use progress::Silent;
 use std::alloc::Global;
 
 /// The expected result for two netlists.
@@ -64,7 +65,7 @@ fn is_answered(alloc: Global, bytes: &[u8], conflicts: u32, wanted: Wanted) -> b
     if bytes.len() > 100_000 || conflicts == 0 || conflicts > 10_000_000 {
         return false;
     }
-    match compare_texts::<Cdcl>(alloc, bytes, conflicts) {
+    match compare_texts::<Cdcl, Silent>(alloc, bytes, conflicts, &Silent) {
         Ok(compared) => is_answer(&compared.text, wanted),
         Err(error) => is_refusal(&error, wanted),
     }

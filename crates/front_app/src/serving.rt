@@ -73,6 +73,7 @@ impl<'a, T: Tell> Program for Strict<'a, T> {
             first: text,
             budget,
             solver: PhantomData::<Cdcl>,
+            tell: self.tell,
         });
         perform(alloc, &job, source, out, note)
     }
@@ -80,7 +81,7 @@ impl<'a, T: Tell> Program for Strict<'a, T> {
 
 /// Runs the command that the words ask for: over the files that they name, or else over `source` and `out`. A report,
 /// and one error line if there is no answer, go to `note`; after the error line comes one for people. Words that ask
-/// for help get a page. Who is told of the progress of `improve` has no say in any of this.
+/// for help get a page. Who is told of the progress has no say in any of this.
 pub fn serve<W: Outside, S: Recalls, O: Sink, N: Retells, R: Rereads, T: Tell>(
     alloc: Global,
     words: &Vec<String>,

@@ -11,7 +11,7 @@ ghost use Rattle.settings.specs.Improve.{IsInRange};
 ghost use Rattle.improve_theory.specs.Leading.{IsReplacement};
 ghost use Rattle.improve_theory.specs.Improvement.{IsResynthesisOf, IsImprovementBy};
 
-use crate::stages::{first_work, stage_work};
+use crate::stages::{first_patience, first_work, stage_work};
 use improve_theory::Undecided;
 use net_core::{Net, remove_dangling};
 use progress::{Progress, Tell};
@@ -36,22 +36,38 @@ pub struct ImprovedNet {
 /// Resynthesizes a net, until no window up to the cap has a shorter chain, or `settings.rounds` rounds have
 /// changed something.
 #[tactic(auto, using(crate::specs::ImprovementLaws::improving))]
-fn resynthesized<S: Solver>(
+fn resynthesized<S: Solver, T: Tell>(
     alloc: Global,
     net: Net,
     settings: &ImproveSettings,
+    tell: &T,
 ) -> Result<ImprovedNet, AllocError>
     requires range { IsInRange settings.now }
     requires cap { 1 ≤ settings.now.cap }
     ensures { IfOk result (λ left. IsResynthesisOf settings.now net left.net left.settled left.undecided.items) }
 {
     let mut attempts = WindowAttempts::<S>::new(alloc, net, *settings)?;
-    let Resynthesized { settled, undecided } = resynthesize(alloc, &mut attempts)?;
+    let Resynthesized { settled, undecided } = resynthesize(alloc, &mut attempts, tell)?;
     Ok(ImprovedNet {
         net: attempts.into_net(),
         settled,
         undecided,
     })
+}
+
+/// A smaller net, if the moves have found one.
+#[tactic(auto, using(crate::specs::ImprovementLaws::improving))]
+fn found_by<S: Solver>(
+    moves: &mut Moves,
+    net: &Net,
+    settings: &ImproveSettings,
+) -> Result<Option<Net>, AllocError>
+    ensures { IfOk result (λ found. IfSome found (IsReplacement (members settings.now.basis) net.now)) }
+{
+    match moves.smaller::<S>(net, settings.basis)? {
+        Some(smaller) => Ok(Some(smaller)),
+        None => Ok(None),
+    }
 }
 
 /// A smaller net after so much more work of moves over the whole net, if they find one; none without work.
@@ -68,10 +84,7 @@ fn moved<S: Solver>(
         return Ok(None);
     }
     moves.run(net, work)?;
-    match moves.smaller::<S>(net, settings.basis)? {
-        Some(smaller) => Ok(Some(smaller)),
-        None => Ok(None),
-    }
+    found_by::<S>(moves, net, settings)
 }
 
 /// The net after the first stage of moves, which only a net of at least `LEAST_MOVED_GATES` gates goes through.
@@ -83,10 +96,12 @@ fn after_moves<S: Solver>(
 ) -> Result<Net, AllocError>
     ensures { IfOk result (IsReplacement (members settings.now.basis) net) }
 {
-    if net.gates().len() < LEAST_MOVED_GATES {
+    let gates = net.gates().len();
+    if gates < LEAST_MOVED_GATES {
         return Ok(net);
     }
-    let found = moved::<S>(moves, &net, settings, first_work(net.gates().len()))?;
+    moves.begin(first_work(gates), first_patience(gates))?;
+    let found = found_by::<S>(moves, &net, settings)?;
     Ok(found.unwrap_or(net))
 }
 
@@ -108,13 +123,13 @@ fn improved<S: Solver, T: Tell>(
     let mut moves = Moves::new(alloc, &net, settings.basis, settings.seed)?;
     let best = after_moves::<S>(&mut moves, net, settings)?;
     tell.tell(Progress::Gates(best.gates().len()));
-    let mut left = resynthesized::<S>(alloc, best, settings)?;
+    let mut left = resynthesized::<S, T>(alloc, best, settings, tell)?;
     for effort in 0..settings.effort {
         tell.tell(Progress::Gates(left.net.gates().len()));
         let work = stage_work(effort.saturating_add(1), left.net.gates().len());
         match moved::<S>(&mut moves, &left.net, settings, work)? {
             None => continue,
-            Some(smaller) => left = resynthesized::<S>(alloc, smaller, settings)?,
+            Some(smaller) => left = resynthesized::<S, T>(alloc, smaller, settings, tell)?,
         }
     }
     Ok(left)

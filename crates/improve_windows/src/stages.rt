@@ -1,9 +1,12 @@
 //! The stages of moves: when each ends, and how much work it does. 100,000 units take about a millisecond.
 
 /// The work of the first stage for each gate, up to `MOST_GATES_OF_SMALL_NET` of them, and for each further one.
-const FIRST_WORK: u64 = 150_000;
+const FIRST_WORK: u64 = 210_000;
 
 const FURTHER_WORK: u64 = 30_000;
+
+/// The first stage ends when this part of its work was done without a gain.
+const PATIENCE_PART: u64 = 3;
 
 /// The most gates of a small net.
 const MOST_GATES_OF_SMALL_NET: u64 = 3_000;
@@ -22,6 +25,11 @@ pub(crate) fn first_work(gates: usize) -> u64 {
     FIRST_WORK
         .saturating_mul(few)
         .saturating_add(FURTHER_WORK.saturating_mul(further))
+}
+
+/// How much of the work of a first stage may be without a gain.
+pub(crate) fn first_patience(gates: usize) -> u64 {
+    first_work(gates) / PATIENCE_PART
 }
 
 /// The length of the stages about an effort: 1, 2, 5, 10 and so on, a tenth to a fifth of it.

@@ -83,7 +83,7 @@ fn bench_text_of(
 
 /// Improves a BLIF netlist by the settings. Returns the text of the improved netlist, and a report of its
 /// cost before and after, of the windows that stayed undecided with their certificates, and of whether all
-/// others are settled. `tell` hears of the gates that are left after each stage.
+/// others are settled. `tell` hears of the rounds, and of the gates that are left after each stage.
 ///
 /// Lines are judged in order, and the first fault is reported; then a control that a table drives, more than
 /// 100,000 gates, a name that is driven twice, one that is used and not driven, and a combinational

@@ -91,13 +91,12 @@ base_done c above w width start lanes has width_is start_is lanes_is =
         let split : (k + 1) * width ≡ k * width + width = omega arith in
         omega (arith, rows_end, split, within, low, width_is, start_is)
 
--- the same, with the numbers as the code computes them
-pub base_code : (c : Cone) (above : List (ℕ × Gate)) (w : Words) (width a b : ℕ) (items lanes : List ℕ) →
-    BeginsWithWords c w → width ≡ width_of w.rows → a ≡ length c.leaves → b ≡ length c.gates → items ≡ w.lanes →
-    lanes ≡ take ((a + b) * width) items → AreDone (with_gates c above) width lanes above
-base_code c above w width a b items lanes has width_is a_is b_is items_are lanes_are =
+-- the words that are kept, with their number as the code computes it
+pub kept_code : (c : Cone) (width a b : ℕ) (items lanes : List ℕ) → a ≡ length c.leaves → b ≡ length c.gates →
+    lanes ≡ take ((a + b) * width) items → lanes ≡ take (length (nodes c) * width) items
+kept_code c width a b items lanes a_is b_is lanes_are =
     let count : a + b ≡ length (nodes c) = omega (arith, nodes_count c, a_is, b_is) in
-    base_done c above w width ((a + b) * width) lanes has width_is (ap (λ (n : ℕ). n * width) count) (lanes_are ∙ ap (take ((a + b) * width)) items_are)
+    lanes_are ∙ ap (λ (n : ℕ). take (n * width) items) count
 
 -- a row of at most 12 leaves has at most 64 words
 pub few_words : (n rows width : ℕ) → n ≤ most_leaves → rows ≡ 2 ^ n → width ≡ width_of rows → width ≤ 64

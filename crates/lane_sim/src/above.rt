@@ -2,7 +2,7 @@
 //! rows are appended, so that different gates can be simulated above the same cone, such as a transitive fanout
 //! with different values at its inputs.
 
-ghost use Rattle.std.specs.Prelude.{◌≡◌, ◌*◌, ◌≤◌, ◌^◌, [], ◌++◌, length, map, IfOk, OnOk};
+ghost use Rattle.std.specs.Prelude.{◌≡◌, ◌*◌, ◌≤◌, ◌^◌, [], ◌++◌, length, map, take, IfOk, OnOk};
 ghost use Rattle.lane_sim.specs.Above.{with_gates, BeginsWithWords, AreDone};
 ghost use Rattle.lane_sim.specs.Cone.{IsCone, AreApart, node_of, nodes as nodes_in};
 ghost use Rattle.lane_sim.specs.Words.{AreWords};
@@ -82,7 +82,7 @@ pub fn copy_words(alloc: Global, words: &Words, more: usize) -> Result<Words, Al
     })
 }
 
-/// Appends the rows of gates to the rows of their fanins.
+/// Replaces the rows after those of a cone by the rows of the gates `above` it.
 fn simulate_rest(
     lanes: &mut Vec<u64>,
     nodes: &IndexSet<u32>,
@@ -94,9 +94,11 @@ fn simulate_rest(
     requires rows { 2 ^ length cone.now.leaves ≤ 64 * width }
     requires cone { IsCone (with_gates cone.now above.now) }
     requires nodes { nodes.now.keys ≡ nodes_in (with_gates cone.now above.now) }
-    requires base { AreDone (with_gates cone.now above.now) width lanes.old.items above.now }
+    requires base { AreDone (with_gates cone.now above.now) width
+        (take (length (nodes_in cone.now) * width) lanes.old.items) above.now }
     ensures { OnOk result (AreDone (with_gates cone.now above.now) width lanes.new.items []) }
 {
+    lanes.truncate((cone.leaves().len() + cone.gates().len()) * width);
     let mut left = above;
     while let Some((first, rest)) = left.split_first() {
         let a = operand(nodes, width, first.1.a);
@@ -123,8 +125,6 @@ pub fn simulate_above(
 {
     let _gates = cone.gates(); // for the prover: the cone's invariant
     let width = width_of(words.rows);
-    let start = (cone.leaves().len() + cone.gates().len()) * width;
-    words.lanes.truncate(start);
     simulate_rest(&mut words.lanes, &index.nodes, width, cone, above)?;
     Ok(())
 }

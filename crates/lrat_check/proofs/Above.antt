@@ -1,7 +1,6 @@
 -- If no variable is above vars, all are variables of the formula.
 use Rattle.std.proofs.Common.{◌≡◌, ℕ, ◌≤◌, ℤ, true, false, nat_lt, List, [], ◌∷◌, Some, None, cond}
 use Rattle.std.proofs.Math.Logic.{⊎_elim}
-use Rattle.std.proofs.lemmas.Grind.{common_steps}
 use Rattle.std.proofs.lemmas.Bool.{cases_Bool, ltb-false}
 use Rattle.std.proofs.lemmas.List.Elements.{All-nil, All-cons}
 use Rattle.sat_theory.specs.Formula.{variable, IsWithin}
@@ -20,5 +19,3 @@ none_above vars (l ∷ ls) none =
     (first_above vars ls) ≡ None = none in All-cons (λ (m : ℤ). variable m ≤ vars) l ls
     (ltb-false vars (variable l) within) (none_above vars ls (rw within at found)))
     (cases_Bool (nat_lt vars (variable l)))
-
-pub ruleset above = (common_steps, none_above)

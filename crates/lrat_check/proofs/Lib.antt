@@ -12,3 +12,4 @@ pub mod SeenIds
 pub mod Stamps
 pub mod Starting
 pub mod Swept
+pub mod Stamped

@@ -1,9 +1,9 @@
 //! Unit propagation along the hints, from the left. The falsified literals are marked, and a hint is checked by
 //! how many literals of its clause aren't. The loop follows the definition `hints_fault` step by step, so its
 //! result is exact.
-ghost use Rattle.std.specs.Prelude.{◌≡◌};
-ghost use Rattle.lrat_check.specs.Live.{live_at, AreWithin};
-ghost use Rattle.lrat_check.specs.LiteralMarks.{marked, HasRoom};
+ghost use Rattle.std.specs.Prelude.{◌≡◌, length};
+ghost use Rattle.lrat_check.specs.Live.{live_at};
+ghost use Rattle.lrat_check.specs.LiteralMarks.{marked, HaveStamps};
 ghost use Rattle.lrat_check.specs.Hints.{outside, hints_fault, error_in};
 ghost use Rattle.lrat_check.specs.Scan.{Finds};
 
@@ -48,13 +48,11 @@ fn scan_clause(marks: &LiteralMarks, clause: &[Lit]) -> Scan
 pub(crate) fn check_hints(
     clauses: &Clauses,
     marks: &mut LiteralMarks,
-    vars: u32,
     hints: &[u32],
 ) -> Result<(), CheckError>
-    requires room { HasRoom marks.old vars }
-    requires within { AreWithin vars (live_at clauses.now) }
+    requires { HaveStamps marks.old (live_at clauses.now) }
     ensures exact { error_in result ≡ hints_fault (live_at clauses.now) (marked marks.old) hints.now }
-    ensures room { HasRoom marks.new vars }
+    ensures room { length marks.new.stamps ≡ length marks.old.stamps }
 {
     let mut left = hints;
     while let Some((hint, after)) = left.split_first() {

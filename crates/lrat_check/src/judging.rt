@@ -1,10 +1,9 @@
 //! Whether a line holds, and its fault if it doesn't: the definitions of `specs/Judging`, with marks for the set
 //! of literals.
-ghost use Rattle.std.specs.Prelude.{◌≡◌, ℤ, false, OnOk, IfOk};
-ghost use Rattle.sat_theory.specs.Formula.{IsWithin};
+ghost use Rattle.std.specs.Prelude.{◌≡◌, ℤ, false, length, All, OnOk, IfOk};
 ghost use Rattle.sat_theory.specs.Holding.{among};
 ghost use Rattle.lrat_check.specs.Live.{live_at, AreWithin};
-ghost use Rattle.lrat_check.specs.LiteralMarks.{marked, HasRoom};
+ghost use Rattle.lrat_check.specs.LiteralMarks.{marked, HasRoom, HasStamps};
 ghost use Rattle.lrat_check.specs.Hints.{error_in};
 ghost use Rattle.lrat_check.specs.Judging as spec;
 ghost use Rattle.lrat_check.specs.Seen.{seen_in, Judges};
@@ -18,7 +17,7 @@ use std::alloc::{AllocError, Global};
 use std::collections::HashSet;
 
 /// Checks an addition. The marks are cleared first, so their state before doesn't matter.
-#[tactic(auto, using(crate::proofs::Above::above))]
+#[tactic(auto, using(crate::proofs::Stamped::stamped))]
 pub(crate) fn judge_addition(
     clauses: &Clauses,
     marks: &mut LiteralMarks,
@@ -44,8 +43,8 @@ pub(crate) fn judge_addition(
         return Err(CheckError::UnknownVariable(variable));
     }
     marks.clear();
-    mark_all(marks, vars, lits);
-    check_hints(clauses, marks, vars, hints)
+    mark_all(marks, lits);
+    check_hints(clauses, marks, hints)
 }
 
 /// The first variable of `lits` above `vars`.
@@ -59,12 +58,11 @@ fn first_above(vars: u32, lits: &[Lit]) -> Option<u32>
 
 /// Marks literals, in an empty set.
 #[tactic(auto, using(crate::proofs::Marking::marking))]
-fn mark_all(marks: &mut LiteralMarks, vars: u32, lits: &[Lit])
+fn mark_all(marks: &mut LiteralMarks, lits: &[Lit])
     requires empty { (l : ℤ) → marked marks.old l ≡ false }
-    requires room { HasRoom marks.old vars }
-    requires within { IsWithin vars lits.now }
+    requires room { All (HasStamps marks.old) lits.now }
     ensures set { marked marks.new ≡ among lits.now }
-    ensures room { HasRoom marks.new vars }
+    ensures room { length marks.new.stamps ≡ length marks.old.stamps }
 {
     for lit in lits {
         marks.add(*lit);

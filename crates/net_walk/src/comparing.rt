@@ -2,9 +2,9 @@
 
 use crate::patterns::{input_word, word_count};
 use chain_walk::SmallNet;
-use rows::{at, put};
+use rows::at;
 use std::alloc::{AllocError, Global};
-use xag_core::{complement_mask, put_word, word_at};
+use xag_core::{complement_mask, word_at};
 
 /// So many words are compared at a time.
 const BLOCK: u32 = 16;

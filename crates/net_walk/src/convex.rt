@@ -5,7 +5,6 @@ use crate::graph::Graph;
 use crate::growing::{LEAST_GATES, MOST_GATES, MOST_INPUTS, Window};
 use crate::loading::in_order;
 use crate::marks::Marks;
-use rows::at;
 use std::alloc::{AllocError, Global};
 
 /// So many nodes are visited at most.

@@ -311,18 +311,34 @@ impl NetWalk {
         self.whole_work <= self.windows_work
     }
 
+    /// One walk: over the whole net where its turn has come, else over a random window.
+    fn walk_once(&mut self) -> Result<(), AllocError> {
+        if self.is_turn_of_whole() {
+            self.walk_whole()
+        } else {
+            self.walk_window()
+        }
+    }
+
     /// Walks until the work is so much in all.
     pub fn run(&mut self, work: u64) -> Result<(), AllocError> {
+        self.run_while_gaining(work, u64::MAX)
+    }
+
+    /// Walks until the work is so much in all, or so much was done since the graph last lost a gate.
+    pub fn run_while_gaining(&mut self, work: u64, patience: u64) -> Result<(), AllocError> {
+        let (mut least, mut gained) = (self.graph.size(), self.work());
         for _walk in 0..work {
             self.keep_best()?;
-            if self.work() >= work || self.graph.size() == 0 {
+            if self.graph.size() < least {
+                least = self.graph.size();
+                gained = self.work();
+            }
+            let is_stuck = self.work().saturating_sub(gained) >= patience;
+            if self.work() >= work || self.graph.size() == 0 || is_stuck {
                 break;
             }
-            if self.is_turn_of_whole() {
-                self.walk_whole()?;
-            } else {
-                self.walk_window()?;
-            }
+            self.walk_once()?;
         }
         Ok(())
     }

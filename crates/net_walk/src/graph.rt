@@ -6,7 +6,7 @@
 //! bound a search and needn't be least.
 
 use crate::fanouts::{Fanouts, NONE, small};
-use rows::{Random, at, bit_at, entry, put};
+use rows::{Random, at, entry, put};
 use std::alloc::{AllocError, Global};
 use xag_core::XagGate;
 

@@ -6,7 +6,7 @@ use crate::graph::Graph;
 use crate::patterns::{input_word, word_count};
 use rows::{at, bit_at, put};
 use std::alloc::{AllocError, Global};
-use xag_core::{complement_mask, put_word, word_at};
+use xag_core::{complement_mask, word_at};
 
 /// The most nodes of a cut.
 const MOST_LEAVES: usize = 12;

@@ -49,6 +49,35 @@ pub enum Progress {
     Written(Written),
     /// After a further stage a netlist has so many gates.
     Gates(usize),
+    /// A round over all roots of windows begins.
+    Round,
+    /// The windows of a root are attempted next.
+    Root {
+        /// How many roots a round has behind it.
+        done: u32,
+        /// How many roots it has.
+        all: u32,
+    },
+    /// A subproblem is searched next.
+    Subproblem {
+        /// The size of its chains.
+        size: u32,
+        /// Its number among those that are searched together, from 1.
+        number: usize,
+        /// How many these are.
+        all: usize,
+    },
+    /// The log of a subproblem has so many lines.
+    Logged(usize),
+    /// A gate is compared next with an earlier one.
+    Compared {
+        /// How many gates a round has behind it.
+        done: u32,
+        /// How many gates it has.
+        all: u32,
+        /// The comparison is given up after so many conflicts.
+        limit: u32,
+    },
     /// Text is written next that people see where they see the progress.
     Text,
 }

@@ -106,6 +106,11 @@ impl Moves {
         self.walk.run(end)
     }
 
+    /// Begins, with so much work at most, and so much without a gain.
+    pub fn begin(&mut self, work: u64, patience: u64) -> Result<(), AllocError> {
+        self.walk.run_while_gaining(work, patience)
+    }
+
     /// A smaller net than the given one that may replace it, if the search has found one. None where it hasn't, or
     /// where the check doesn't find it equivalent.
     pub fn smaller<S: Solver>(&mut self, net: &Net, basis: Basis) -> Result<Option<Net>, AllocError>

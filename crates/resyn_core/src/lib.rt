@@ -16,7 +16,7 @@
 //! a fanin with the first. `settled` is the fixpoint, `stopped` that the limit of rounds was reached.
 //!
 //! ```text
-//! let result = resynthesize(alloc, &mut attempts)?; // result.settled, result.undecided; attempts.net()
+//! let result = resynthesize(alloc, &mut attempts, &Silent)?; // result.settled, result.undecided; attempts.net()
 //! ```
 #![tactic(auto)]
 

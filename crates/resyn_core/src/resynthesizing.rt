@@ -10,6 +10,7 @@ ghost use Rattle.improve_theory.specs.Changes.{HasChangedTimes};
 use crate::attempts::Attempts;
 use crate::round::{Round, make_round};
 use improve_theory::Undecided;
+use progress::{Progress, Tell};
 use std::alloc::{AllocError, Global};
 
 /// The result of resynthesis, besides its net.
@@ -27,11 +28,12 @@ pub struct Resynthesized {
 ///
 /// The final net implements all that the first one implements. If it is settled, no window up to the cap has
 /// a shorter chain, but for those that are named. Otherwise a window had a shorter chain in each of the rounds, and
-/// the net has lost at least as many gates.
+/// the net has lost at least as many gates. `tell` hears of the rounds and of the roots in each.
 #[tactic(auto, using(crate::specs::ResynthesizedLaws::resynthesizing))]
-pub fn resynthesize<T: Attempts>(
+pub fn resynthesize<T: Attempts, W: Tell>(
     alloc: Global,
     attempts: &mut T,
+    tell: &W,
 ) -> Result<Resynthesized, AllocError>
     requires cap { 1 ≤ (T.settings_of attempts.old).cap }
     ensures replaces { IfOk result (λ _.
@@ -51,12 +53,13 @@ pub fn resynthesize<T: Attempts>(
 {
     let rounds = attempts.settings().rounds;
     for _round in 0..rounds {
+        tell.tell(Progress::Round);
         attempts.strash(alloc)?;
         let mut round = Round {
             changed: false,
             named: Vec::new(alloc),
         };
-        make_round(alloc, attempts, &mut round)?;
+        make_round(alloc, attempts, &mut round, tell)?;
         let Round { changed, named } = round;
         if !changed {
             return Ok(Resynthesized {

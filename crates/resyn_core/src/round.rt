@@ -9,6 +9,7 @@ ghost use Rattle.resyn_core.specs.Resynthesized.{loop_state, IsResynthesized};
 use crate::attempts::{Attempted, Attempts};
 use crate::nodes::{end_node, first_node, has_gate};
 use improve_theory::{Undecided, WindowCandidate};
+use progress::{Progress, Tell};
 use std::alloc::{AllocError, Global};
 use std::marker::Model;
 
@@ -152,12 +153,13 @@ fn attempt_root<T: Attempts>(
     Ok(())
 }
 
-/// Makes a round: attempts all roots of the initial net, in ascending order.
+/// Makes a round: attempts all roots of the initial net, in ascending order. `tell` hears of each.
 #[tactic(auto, using(crate::specs::ResynthesizedLaws::attempting))]
-pub fn make_round<T: Attempts>(
+pub fn make_round<T: Attempts, W: Tell>(
     alloc: Global,
     attempts: &mut T,
     round: &mut Round,
+    tell: &W,
 ) -> Result<(), AllocError>
     requires cap { 1 ≤ (T.settings_of attempts.old).cap }
     ensures { OnOk result (IsResynthesized (IsOfRoots (T.settings_of attempts.old).cap
@@ -168,6 +170,10 @@ pub fn make_round<T: Attempts>(
     let first = first_node(attempts.net());
     let end = end_node(attempts.net());
     for root in first..end {
+        tell.tell(Progress::Root {
+            done: root.saturating_sub(first),
+            all: end.saturating_sub(first),
+        });
         attempt_root(alloc, attempts, round, root)?;
     }
     Ok(())

@@ -7,6 +7,7 @@ use crate::nodes::{Edge, NodeGate};
 use crate::pairs::compare;
 use crate::queries::{Bounds, ask_two};
 use crate::state::SweepState;
+use progress::Tell;
 use sat_solve::{AssumptionResult, Solver};
 use std::alloc::AllocError;
 
@@ -135,13 +136,14 @@ pub(crate) fn derive_binary_clauses<S: Solver>(
 
 /// Compares a gate with its candidates in turn: first with the gate that it is structurally equal to, if there is
 /// one, then with those of its class.
-fn compare_candidates<S: Solver>(
+fn compare_candidates<S: Solver, T: Tell>(
     solver: &mut S,
     bounds: Bounds,
     sweeping: &mut SweepState,
     x: u32,
     strash_equal: Option<u32>,
     limit: u32,
+    tell: &T,
 ) -> Result<SweepEvent, AllocError>
     requires vars { S.vars_of solver.old ≡ bounds.vars }
     requires small { bounds.vars < 2 ^ 31 }
@@ -156,7 +158,7 @@ fn compare_candidates<S: Solver>(
         let Some(y) = candidate else {
             return Ok(SweepEvent::Nothing);
         };
-        let (event, again) = compare(solver, bounds, sweeping, x, y, is_strash_equal, limit)?;
+        let (event, again) = compare(solver, bounds, sweeping, x, y, is_strash_equal, limit, tell)?;
         if !again {
             return Ok(event);
         }
@@ -165,12 +167,13 @@ fn compare_candidates<S: Solver>(
 }
 
 /// Visits a gate: it is merged, or listed as a candidate for later gates.
-fn visit<S: Solver>(
+fn visit<S: Solver, T: Tell>(
     solver: &mut S,
     bounds: Bounds,
     sweeping: &mut SweepState,
     x: u32,
     limit: u32,
+    tell: &T,
 ) -> Result<SweepEvent, AllocError>
     requires vars { S.vars_of solver.old ≡ bounds.vars }
     requires small { bounds.vars < 2 ^ 31 }
@@ -185,17 +188,18 @@ fn visit<S: Solver>(
         return Ok(SweepEvent::Nothing);
     }
     let strash_equal = sweeping.strash_equal(x)?;
-    let event = compare_candidates(solver, bounds, sweeping, x, strash_equal, limit)?;
+    let event = compare_candidates(solver, bounds, sweeping, x, strash_equal, limit, tell)?;
     sweeping.list(x);
     Ok(event)
 }
 
 /// Visits all gates in topological order.
-pub(crate) fn visit_gates<S: Solver>(
+pub(crate) fn visit_gates<S: Solver, T: Tell>(
     solver: &mut S,
     bounds: Bounds,
     sweeping: &mut SweepState,
     limit: u32,
+    tell: &T,
 ) -> Result<SweepEvent, AllocError>
     requires vars { S.vars_of solver.old ≡ bounds.vars }
     requires small { bounds.vars < 2 ^ 31 }
@@ -205,7 +209,7 @@ pub(crate) fn visit_gates<S: Solver>(
         if sweeping.is_spent() {
             return Ok(SweepEvent::Spent);
         }
-        let event = visit(solver, bounds, sweeping, x, limit)?;
+        let event = visit(solver, bounds, sweeping, x, limit, tell)?;
         if event != SweepEvent::Nothing {
             return Ok(event);
         }

@@ -10,7 +10,7 @@
 //!
 //! ```text
 //! let mut solver = S::new(alloc, &cnf, budget)?;       // of the miter of the two nets
-//! match sweep(alloc, &first, &second, &mut solver, budget / 2, most)? {
+//! match sweep(alloc, &first, &second, &mut solver, budget / 2, most, &Silent)? {
 //!     Swept::Differ(sources) => ..,                    // a sink may differ here: simulate it
 //!     Swept::Swept { spent } => ..,                    // solver.finish(alloc, the rest of the budget)
 //! }

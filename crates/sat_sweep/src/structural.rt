@@ -8,6 +8,7 @@ use crate::pairs::ask;
 use crate::queries::Bounds;
 use crate::sinks::visit_sinks;
 use crate::state::SweepState;
+use progress::Tell;
 use sat_solve::Solver;
 use std::alloc::AllocError;
 
@@ -15,11 +16,12 @@ use std::alloc::AllocError;
 const LIMIT: u32 = 20;
 
 /// Compares a gate in the cone of an open sink with the gate that it is structurally equal to, if there is one.
-fn merge_structural<S: Solver>(
+fn merge_structural<S: Solver, T: Tell>(
     solver: &mut S,
     bounds: Bounds,
     sweeping: &mut SweepState,
     x: u32,
+    tell: &T,
 ) -> Result<SweepEvent, AllocError>
     requires vars { S.vars_of solver.old ≡ bounds.vars }
     requires small { bounds.vars < 2 ^ 31 }
@@ -31,15 +33,16 @@ fn merge_structural<S: Solver>(
     let Some(y) = sweeping.strash_equal(x)? else {
         return Ok(SweepEvent::Nothing);
     };
-    let (event, _) = ask(solver, bounds, sweeping, x, y, LIMIT)?;
+    let (event, _) = ask(solver, bounds, sweeping, x, y, LIMIT, tell)?;
     Ok(event)
 }
 
 /// Visits all gates in topological order.
-fn merge_structural_gates<S: Solver>(
+fn merge_structural_gates<S: Solver, T: Tell>(
     solver: &mut S,
     bounds: Bounds,
     sweeping: &mut SweepState,
+    tell: &T,
 ) -> Result<SweepEvent, AllocError>
     requires vars { S.vars_of solver.old ≡ bounds.vars }
     requires small { bounds.vars < 2 ^ 31 }
@@ -49,7 +52,7 @@ fn merge_structural_gates<S: Solver>(
         if sweeping.is_spent() {
             return Ok(SweepEvent::Spent);
         }
-        let event = merge_structural(solver, bounds, sweeping, x)?;
+        let event = merge_structural(solver, bounds, sweeping, x, tell)?;
         if event != SweepEvent::Nothing {
             return Ok(event);
         }
@@ -58,16 +61,17 @@ fn merge_structural_gates<S: Solver>(
 }
 
 /// The first round: over all gates, and then over the sinks whose two signals were merged.
-pub(crate) fn structural_round<S: Solver>(
+pub(crate) fn structural_round<S: Solver, T: Tell>(
     solver: &mut S,
     bounds: Bounds,
     sweeping: &mut SweepState,
+    tell: &T,
 ) -> Result<SweepEvent, AllocError>
     requires vars { S.vars_of solver.old ≡ bounds.vars }
     requires small { bounds.vars < 2 ^ 31 }
     ensures { OnOk result (KeepsFormula S.IsSolverOf S.vars_of S.additions_of bounds.most solver.old solver.new) }
 {
-    let event = merge_structural_gates(solver, bounds, sweeping)?;
+    let event = merge_structural_gates(solver, bounds, sweeping, tell)?;
     if event != SweepEvent::Nothing {
         return Ok(event);
     }

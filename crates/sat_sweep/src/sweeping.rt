@@ -10,6 +10,7 @@ use crate::sinks::visit_sinks;
 use crate::state::SweepState;
 use crate::structural::structural_round;
 use net_core::Net;
+use progress::Tell;
 use sat_solve::Solver;
 use std::alloc::{AllocError, Global};
 
@@ -27,17 +28,18 @@ pub enum Swept {
 }
 
 /// One round over the gates and the sinks.
-fn round<S: Solver>(
+fn round<S: Solver, T: Tell>(
     solver: &mut S,
     bounds: Bounds,
     sweeping: &mut SweepState,
     limit: u32,
+    tell: &T,
 ) -> Result<SweepEvent, AllocError>
     requires vars { S.vars_of solver.old ≡ bounds.vars }
     requires small { bounds.vars < 2 ^ 31 }
     ensures { OnOk result (KeepsFormula S.IsSolverOf S.vars_of S.additions_of bounds.most solver.old solver.new) }
 {
-    let event = visit_gates(solver, bounds, sweeping, limit)?;
+    let event = visit_gates(solver, bounds, sweeping, limit, tell)?;
     if event != SweepEvent::Nothing {
         return Ok(event);
     }
@@ -45,17 +47,18 @@ fn round<S: Solver>(
 }
 
 /// Rounds, as long as a sink is open.
-fn rounds<S: Solver>(
+fn rounds<S: Solver, T: Tell>(
     solver: &mut S,
     bounds: Bounds,
     sweeping: &mut SweepState,
+    tell: &T,
 ) -> Result<SweepEvent, AllocError>
     requires vars { S.vars_of solver.old ≡ bounds.vars }
     requires small { bounds.vars < 2 ^ 31 }
     ensures { OnOk result (KeepsFormula S.IsSolverOf S.vars_of S.additions_of bounds.most solver.old solver.new) }
 {
     for limit in LIMITS {
-        let event = round(solver, bounds, sweeping, limit)?;
+        let event = round(solver, bounds, sweeping, limit, tell)?;
         if event != SweepEvent::Nothing {
             return Ok(event);
         }
@@ -68,10 +71,11 @@ fn rounds<S: Solver>(
 }
 
 /// Derives the binary clauses of the gates that are still needed, and then goes through the rounds.
-fn sweep_remaining<S: Solver>(
+fn sweep_remaining<S: Solver, T: Tell>(
     solver: &mut S,
     bounds: Bounds,
     sweeping: &mut SweepState,
+    tell: &T,
 ) -> Result<SweepEvent, AllocError>
     requires vars { S.vars_of solver.old ≡ bounds.vars }
     requires small { bounds.vars < 2 ^ 31 }
@@ -82,38 +86,40 @@ fn sweep_remaining<S: Solver>(
     if event != SweepEvent::Nothing {
         return Ok(event);
     }
-    rounds(solver, bounds, sweeping)
+    rounds(solver, bounds, sweeping, tell)
 }
 
 /// Merges structurally equal gates, and goes on if a sink is still open.
-fn sweep_all<S: Solver>(
+fn sweep_all<S: Solver, T: Tell>(
     solver: &mut S,
     bounds: Bounds,
     sweeping: &mut SweepState,
+    tell: &T,
 ) -> Result<SweepEvent, AllocError>
     requires vars { S.vars_of solver.old ≡ bounds.vars }
     requires small { bounds.vars < 2 ^ 31 }
     ensures { OnOk result (KeepsFormula S.IsSolverOf S.vars_of S.additions_of bounds.most solver.old solver.new) }
 {
     sweeping.begin_round();
-    let event = structural_round(solver, bounds, sweeping)?;
+    let event = structural_round(solver, bounds, sweeping, tell)?;
     if event != SweepEvent::Nothing || !sweeping.has_open() {
         return Ok(event);
     }
-    sweep_remaining(solver, bounds, sweeping)
+    sweep_remaining(solver, bounds, sweeping, tell)
 }
 
 /// Sweeps two nets with equally many sources and equally many sinks: finds signals that are equal or
 /// complementary, and has `solver`, a solver of the nets' miter, derive that. It stops when the conflict limits of
 /// the queries that were given up add up to `budget`, and asks nothing more once the solver's log has `most`
-/// additions. Whatever it finds, the solver stays a solver of its formula.
-pub fn sweep<S: Solver>(
+/// additions. Whatever it finds, the solver stays a solver of its formula. `tell` hears of each gate that is compared.
+pub fn sweep<S: Solver, T: Tell>(
     alloc: Global,
     first: &Net,
     second: &Net,
     solver: &mut S,
     budget: u32,
     most: u32,
+    tell: &T,
 ) -> Result<Swept, AllocError>
     requires vars { S.vars_of solver.old ≡ first.now.sources + length first.now.gates + length second.now.gates +
         length first.now.sinks }
@@ -131,7 +137,7 @@ pub fn sweep<S: Solver>(
     let event = if sweeping.patterns.is_different(&sweeping.nodes) {
         SweepEvent::Counterexample
     } else {
-        sweep_all(solver, bounds, &mut sweeping)?
+        sweep_all(solver, bounds, &mut sweeping, tell)?
     };
     let spent = sweeping.spent();
     if event != SweepEvent::Counterexample {

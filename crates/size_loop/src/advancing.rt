@@ -15,6 +15,7 @@ use crate::sizes::{SizeOutcome, search_formulas};
 use cert_theory::{Header, Section, Verdict};
 use chain_core::Chain;
 use op_basis::Basis;
+use progress::Tell;
 use sat_solve::Solver;
 use settings::Method;
 use std::alloc::{AllocError, Global};
@@ -109,8 +110,8 @@ impl SizeSearch {
         }
     }
 
-    /// Searches the next size with the solver `S`.
-    pub fn advance<S: Solver>(self, alloc: Global) -> Result<Advance, AllocError>
+    /// Searches the next size with the solver `S`. `tell` hears of each subproblem.
+    pub fn advance<S: Solver, T: Tell>(self, alloc: Global, tell: &T) -> Result<Advance, AllocError>
         ensures within { IfOk result (λ step. IfSection step (λ rest section. self.next ≤ self.header.max)) }
         ensures section { IfOk result (λ step. IfSection step (λ rest section.
             IsSection self.header self.next section)) }
@@ -140,7 +141,7 @@ impl SizeSearch {
                 verdict: Verdict::found(next, low),
             });
         }
-        match search_formulas::<S>(alloc, &header, next)? {
+        match search_formulas::<S, T>(alloc, &header, next, tell)? {
             SizeOutcome::Found(chain) => Ok(Advance::Ended {
                 chain: Some(chain),
                 verdict: Verdict::found(next, low),

@@ -12,7 +12,7 @@
 //! walks over small nets. Then the formula of their size isn't solved.
 //!
 //! ```text
-//! let certificate = search::<Cdcl>(alloc, &spec, basis, Method::Ssv, 12, 100_000)?;
+//! let certificate = search::<Cdcl, Silent>(alloc, &spec, basis, Method::Ssv, 12, 100_000, 1, &Silent)?;
 //! ```
 //!
 //! - `trying`: one subproblem, by its formula and the solver.

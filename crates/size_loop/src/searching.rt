@@ -9,6 +9,7 @@ ghost use Rattle.cert_theory.specs.LiveBounds.{HaveLiveBounds};
 use crate::advancing::{Advance, SizeSearch};
 use cert_theory::{Certificate, Header};
 use op_basis::Basis;
+use progress::Tell;
 use sat_solve::Solver;
 use settings::Method;
 use std::alloc::{AllocError, Global};
@@ -17,9 +18,9 @@ use tt_core::Spec;
 /// Searches the sizes from 0 to `max` with the solver `S` for a chain of the fewest steps over the basis that
 /// implements the tables, and returns the certificate of what it found. A subproblem is left open once the solver
 /// has learnt at least `budget` clauses. `effort` is a factor for the work of the walks, 0 for no walk. The basis isn't
-/// empty, and `max` and `budget` are in the ranges of `settings`.
+/// empty, and `max` and `budget` are in the ranges of `settings`. `tell` hears of each subproblem.
 #[tactic(auto, using(crate::specs::SearchedLaws::steps))]
-pub fn search<S: Solver>(
+pub fn search<S: Solver, T: Tell>(
     alloc: Global,
     spec: &Spec,
     basis: Basis,
@@ -27,6 +28,7 @@ pub fn search<S: Solver>(
     max: u32,
     budget: u32,
     effort: u32,
+    tell: &T,
 ) -> Result<Certificate, AllocError>
     requires settings { IsInRange (record {
       basis = basis;
@@ -48,7 +50,7 @@ pub fn search<S: Solver>(
     let mut search = SizeSearch::new(copied(alloc, spec)?, basis, method, max, budget, effort);
     let mut sections = Vec::new(alloc);
     loop {
-        match search.advance::<S>(alloc)? {
+        match search.advance::<S, T>(alloc, tell)? {
             Advance::Section { rest, section } => {
                 sections.push(section)?;
                 search = rest;

@@ -16,6 +16,7 @@ use enc_fence::FenceEnc;
 use enc_select::Select;
 use enc_ssv::{Plain, Ssv};
 use enc_strong::{Strong, StrongFence};
+use progress::{Progress, Silent, Tell};
 use sat_solve::Solver;
 use settings::Method;
 use std::alloc::{AllocError, Global};
@@ -87,37 +88,46 @@ pub fn search_size<S: Solver>(
     if let Some(chain) = enumerated_chain(alloc, header, size)? {
         return Ok(SizeOutcome::Found(chain));
     }
-    search_formulas::<S>(alloc, header, size)
+    search_formulas::<S, Silent>(alloc, header, size, &Silent)
 }
 
-/// Searches the subproblems of `size` in order with the solver `S`, by the encoding of the header's method.
+/// Searches the subproblems of `size` in order with the solver `S`, by the encoding of the header's method. `tell`
+/// hears of each.
 #[tactic(auto, unfolding(cert_theory::specs::Coding::coding_of))]
-pub(crate) fn search_formulas<S: Solver>(
+pub(crate) fn search_formulas<S: Solver, T: Tell>(
     alloc: Global,
     header: &Header,
     size: u32,
+    tell: &T,
 ) -> Result<SizeOutcome, AllocError>
     requires header { IsHeader header.now }
     requires size { size ≤ header.now.max }
     ensures { IfOk result (λ outcome. IsSized header.now size outcome) }
 {
     match header.method {
-        Method::Plain => search_subproblems::<S, _>(alloc, &Plain, header, size),
-        Method::Ssv => search_subproblems::<S, _>(alloc, &Ssv, header, size),
-        Method::Select => search_subproblems::<S, _>(alloc, &Select, header, size),
-        Method::Fence => search_subproblems::<S, _>(alloc, &FenceEnc, header, size),
-        Method::Strong => search_subproblems::<S, _>(alloc, &Strong, header, size),
-        Method::StrongFence => search_subproblems::<S, _>(alloc, &StrongFence, header, size),
+        Method::Plain => search_subproblems::<S, _, T>(alloc, &Plain, header, size, tell),
+        Method::Ssv => search_subproblems::<S, _, T>(alloc, &Ssv, header, size, tell),
+        Method::Select => search_subproblems::<S, _, T>(alloc, &Select, header, size, tell),
+        Method::Fence => search_subproblems::<S, _, T>(alloc, &FenceEnc, header, size, tell),
+        Method::Strong => search_subproblems::<S, _, T>(alloc, &Strong, header, size, tell),
+        Method::StrongFence => search_subproblems::<S, _, T>(
+            alloc,
+            &StrongFence,
+            header,
+            size,
+            tell,
+        ),
     }
 }
 
 /// Searches the subproblems of `size` by any encoding that writes the formulas of the header's method, up to the first
 /// that is left open where the method says so.
-fn search_subproblems<S: Solver, E: Encoding>(
+fn search_subproblems<S: Solver, E: Encoding, T: Tell>(
     alloc: Global,
     encoding: &E,
     header: &Header,
     size: u32,
+    tell: &T,
 ) -> Result<SizeOutcome, AllocError>
     requires header { IsHeader header.now }
     requires coding { IsCodedBy (coding_of header.now.method) (E.subproblems_of encoding.now)
@@ -127,11 +137,19 @@ fn search_subproblems<S: Solver, E: Encoding>(
 {
     let mut subproblems = Vec::new(alloc);
     let mut stopped = false;
-    for subproblem in encoding.subproblems(alloc, &header.spec, size)? {
+    let listed = encoding.subproblems(alloc, &header.spec, size)?;
+    let all = listed.len();
+    for subproblem in listed {
         if !stopped {
+            tell.tell(Progress::Subproblem {
+                size,
+                number: subproblems.len().saturating_add(1),
+                all,
+            });
             match try_subproblem::<S, E>(alloc, encoding, header, size, subproblem)? {
                 SubproblemOutcome::Found(chain) => return Ok(SizeOutcome::Found(chain)),
                 SubproblemOutcome::Logged(log) => {
+                    tell.tell(Progress::Logged(log.log.len()));
                     stopped = stops_after(header.method, log.ended);
                     subproblems.push(log)?;
                 }

@@ -1,131 +1,32 @@
 -- The laws of `strong-fence`.
-use Rattle.std.proofs.Common.{◌≡◌, ℕ, ◌+◌, ◌-◌, ◌<◌, ◌≤◌, List, [], ◌∷◌, length, Contains, sym, ap, ◌∙◌, subst, arith, ⊎_elim}
-use Rattle.std.specs.Prelude.{sum, max, nat_lt}
-use Rattle.std.specs.List.{range_with_len}
-use Rattle.std.proofs.lemmas.Bool.{cases_lt, lt-ltb, le-ltb, cond-true, cond-false}
-use Rattle.chain_theory.specs.Chain.{Step, Chain}
+use Rattle.std.proofs.Common.{ℕ, ◌<◌, ◌≤◌, List, length, Contains, ◌∙◌, subst}
 use Rattle.chain_theory.specs.Agreement.{HasChain, IsMinimum}
-use Rattle.chain_theory.specs.Levels.{level, HasLevels, HasChainOfLevels}
-use Rattle.chain_theory.specs.LevelLaws.{input_level}
+use Rattle.chain_theory.specs.Levels.{HasLevels, HasChainOfLevels}
 use Rattle.op_basis.specs.Basis.{members}
 use Rattle.op_basis.specs.Closed.{swap_closed}
 use Rattle.fence_core.specs.Fence.{IsFenceOf, listed_fences}
-use Rattle.fence_core.specs.Listing.{sum-cons, fences_are_listed}
-use Rattle.chain_laws.specs.Follow.{place_cases}
-use Rattle.chain_laws.specs.LevelOrder.{level_of_larger}
-use Rattle.chain_laws.specs.NormalForm.{IsNormalForm}
+use Rattle.fence_core.specs.Listing.{fences_are_listed}
 use Rattle.chain_laws.specs.Least.{levels_at_most_steps}
-use Rattle.chain_laws.specs.Fences.{level_by, IsInFence, HasFencedChain, least_in_fence}
+use Rattle.chain_laws.specs.Fences.{HasFencedChain, least_in_fence}
 use Rattle.sat_theory.specs.Formula.{IsFormula, Assignment, Satisfies}
 use Rattle.tt_core.specs.Words.{Words, specification}
 use Rattle.tt_core.specs.Live.{live_words}
 use Rattle.clause_core.specs.Clauses.{IsSatisfiable}
-use Rattle.clause_core.specs.Holds.{contains_map, flat_map_make, range_contains}
+use Rattle.clause_core.specs.Holds.{contains_map}
 use Rattle.enc_theory.specs.Numbering.{sizes_of}
-use Rattle.enc_theory.specs.Pairs.{pair, pairs_with}
-use Rattle.enc_theory.specs.Fence.{places_under, fence_pairs, fence_layout, fence_live, fence_formula}
+use Rattle.enc_theory.specs.Fence.{fence_pairs, fence_layout, fence_live, fence_formula}
 use Rattle.enc_theory.specs.declared.subproblem.Subproblem.{Subproblem}
 use Rattle.enc_theory.specs.declared.subproblem.Subproblem.TheVariants.{Levels}
 use Rattle.enc_theory.specs.Subproblems.{subproblems_for, fence_in}
-use Rattle.enc_laws.specs.Layouts.{pair_with_larger}
 use Rattle.enc_laws.specs.Live.{picked}
 use Rattle.enc_laws.specs.Decoded.{IsFor}
-use Rattle.enc_laws.specs.Complete.{step_at, step_below, step_there}
-use Rattle.enc_laws.specs.Laws.{IsAllowed, picked_is_for}
+use Rattle.enc_laws.specs.Laws.{picked_is_for}
 use Rattle.enc_laws.specs.ByPairs.{whole_has}
-use Rattle.enc_laws.specs.Fence.{fence_pairs_are_below, level_from, level_from_low, level_from_high, level_here, level_past, fence_sound}
+use Rattle.enc_laws.specs.Fence.{fence_pairs_are_below, fence_sound, stands_allowed}
 use Rattle.enc_laws.specs.FenceLevels.{fence_sound_at}
 use Rattle.strong_theory.specs.Strong.{strong_fence_live, strong_fence_formula}
 use Rattle.strong_laws.specs.Strengthened.{strengthened_has}
 use Rattle.strong_laws.specs.Whole.{normal_form_satisfies_strong, strong_by_pairs_is_formula}
-
--- ---- a chain in its fence has the fence's pairs (as in `enc_laws`)
-
-level_positive : (fence : List ℕ) (k : ℕ) → k < sum fence → 1 ≤ level_by fence k
-level_positive [] k low = absurd (omega arith)
-level_positive (q ∷ qs) k low = ⊎_elim
-    (λ (here : k < q). omega (arith, level_here q qs k here))
-    (λ (past : q ≤ k). omega (arith, level_past q qs k past))
-    (cases_lt k q)
-
--- A place whose level is one below that of a step is among them.
-under_has : (first count : ℕ) (fence : List ℕ) (k p : ℕ) → k < sum fence → first ≤ p → p < first + count + k →
-    level_from first count fence p + 1 ≡ level_by fence k → Contains (places_under first count fence k) p
-unfolding places_under
-under_has first count [] k p low from to e = absurd (omega arith)
-under_has first count (q ∷ qs) k p low from to e =
-    let total = sum-cons q qs in
-    ⊎_elim
-    (λ (here : k < q).
-    let is : places_under first count (q ∷ qs) k ≡ range_with_len first count = cond-true (nat_lt k q) (range_with_len first count) (places_under (first + count) q qs (k - q)) (lt-ltb k q here) in
-    let own = level_here q qs k here in
-    subst (λ (x : List ℕ). Contains x p) (sym is) (⊎_elim
-    (λ (inside : p < first + count). range_contains first count p from inside)
-    (λ (above : first + count ≤ p). absurd (let there = level_from_high first count (q ∷ qs) p above in
-    omega (arith, level_positive (q ∷ qs) (p - (first + count)) (omega arith))))
-    (cases_lt p (first + count))))
-    (λ (past : q ≤ k).
-    let is : places_under first count (q ∷ qs) k ≡ places_under (first + count) q qs (k - q) =
-    cond-false (nat_lt k q) (range_with_len first count) (places_under (first + count) q qs (k - q))
-    (le-ltb k q past) in
-    let own = level_past q qs k past in
-    let positive = level_positive qs (k - q) (omega arith) in
-    subst (λ (x : List ℕ). Contains x p) (sym is) (⊎_elim
-    (λ (inside : p < first + count). absurd (omega (arith, level_from_low first count (q ∷ qs) p inside)))
-    (λ (above : first + count ≤ p).
-    let there = level_from_high first count (q ∷ qs) p above in
-    let offset : p - (first + count) - q ≡ p - (first + count + q) = omega arith in
-    under_has (first + count) q qs (k - q) p (omega arith) above (omega arith) (⊎_elim
-    (λ (in_level : p < first + count + q). omega (arith, level_here q qs (p - (first + count)) (omega arith), level_from_low (first + count) q qs p in_level))
-    (λ (over_level : first + count + q ≤ p). omega (arith, level_past q qs (p - (first + count)) (omega arith), ap (level_by qs) offset, level_from_high (first + count) q qs p over_level))
-    (cases_lt p (first + count + q))))
-    (cases_lt p (first + count))))
-    (cases_lt k q)
-
--- ---- a chain in its fence
-
--- the level of a place of a chain ordered by level, by its fence
-level_is : (c : Chain) (fence : List ℕ) → IsInFence c fence → (p : ℕ) → 1 ≤ p → p < c.n + 1 + length c.steps → level c p ≡ level_from 1 c.n fence p
-level_is c fence stands p from low = ⊎_elim
-    (λ (is_input : p ≤ c.n). input_level c.n p c.steps is_input ∙ sym (level_from_low 1 c.n fence p (omega arith)))
-    (λ (is_step : (i : ℕ) × (i < length c.steps) × (p ≡ c.n + 1 + i)).
-    let here : p ≡ c.n + 1 + is_step.0 = is_step.2 in
-    let offset : is_step.0 ≡ p - (1 + c.n) = omega arith in
-    ap (level c) here ∙ stands.levels is_step.0 is_step.1 ∙ ap (level_by fence) offset ∙ sym (level_from_high 1 c.n fence p (omega arith)))
-    (place_cases c.n (length c.steps) p low)
-
--- The pairs of a chain in normal form, in its fence, are those of the encoding.
-stands_allowed : (w : Words) (basis r : ℕ) (c : Chain) (fence : List ℕ) → IsFor w basis r c →
-    IsNormalForm (members basis) (specification w) c → IsInFence c fence →
-    IsAllowed (fence_pairs (swap_closed (members basis)) w.n fence) w r c
-unfolding fence_pairs
-stands_allowed w basis r c fence is normal_form stands = record {
-  each = λ i place.
-      let a : Step = step_at c i in
-      let below = step_below w basis r c is i place in
-      let at = step_there w basis r c is i place in
-      let inputs = is.agrees.inputs in
-      let size = is.size in
-      let from = place.from in
-      let to = place.to in
-      let j = below.j_below in
-      let k = below.k_below in
-      let j_from = below.j_from in
-      let whole = stands.whole in
-      let index : c.n + 1 + (i - (c.n + 1)) ≡ i = omega arith in
-      let own : level c i ≡ 1 + level c (max a.j a.k) = ap (level c) (sym index) ∙ level_of_larger c is.is_chain normal_form.in_order (i - (c.n + 1)) a at in
-      let mine : level c i ≡ level_by fence (i - (w.n + 1)) = level_is c fence stands i (omega arith) (omega arith)
-      ∙ level_from_high 1 c.n fence i (omega arith)
-      ∙ ap (level_by fence) (let e : i - (1 + c.n) ≡ i - (w.n + 1) = omega arith in e) in
-      let theirs : level c (max a.j a.k) ≡ level_from 1 w.n fence (max a.j a.k) =
-      level_is c fence stands (max a.j a.k) (omega arith) (omega arith)
-      ∙ ap (λ (n : ℕ). level_from 1 n fence (max a.j a.k)) inputs in
-      flat_map_make (pairs_with (swap_closed (members basis))) (places_under 1 w.n fence (i - (w.n + 1))) (max a.j a.k) (pair a.j a.k)
-      (under_has 1 w.n fence (i - (w.n + 1)) (max a.j a.k) (omega arith) (omega arith) (omega arith) (omega arith))
-      (pair_with_larger (swap_closed (members basis)) a.j a.k below.j_from below.k_from (λ closed. normal_form.operands_rise closed (i - (c.n + 1)) a at));
-}
-
--- ---- the laws
 
 -- What satisfies the formula satisfies that of the fence.
 pub strong_has_fence : (w : Words) (basis r : ℕ) (fence : List ℕ) (v : Assignment) → Satisfies v (strong_fence_formula w basis r fence) → Satisfies v (fence_formula w basis r fence)

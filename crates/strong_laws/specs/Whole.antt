@@ -1,5 +1,5 @@
 -- The laws of `strong`, and what both methods share.
-use Rattle.std.proofs.Common.{◌≡◌, ℕ, ◌+◌, ◌-◌, List, true}
+use Rattle.std.proofs.Common.{◌≡◌, ℕ, List, true}
 use Rattle.chain_theory.specs.Chain.{Chain}
 use Rattle.chain_theory.specs.Agreement.{HasChain, IsMinimum}
 use Rattle.op_basis.specs.Basis.{members}
@@ -19,16 +19,16 @@ use Rattle.enc_theory.specs.Pairs.{pairs_below, layout, vars_of}
 use Rattle.enc_theory.specs.Families.{common}
 use Rattle.enc_theory.specs.Cuts.{cuts}
 use Rattle.enc_theory.specs.Ssv.{ssv_layout, ssv_live, ssv_formula}
-use Rattle.enc_laws.specs.Layouts.{AreBelow, layout_is_laid, pairs_are_below, pair_is_there}
+use Rattle.enc_laws.specs.Layouts.{AreBelow, layout_is_laid}
 use Rattle.enc_laws.specs.Decoded.{IsFor}
-use Rattle.enc_laws.specs.Complete.{assignment_of, step_at, step_below, step_there}
+use Rattle.enc_laws.specs.Complete.{assignment_of}
 use Rattle.enc_laws.specs.Laws.{IsAllowed, allowed_pairs, chain_satisfies, live_outs, part_is_all_live}
 use Rattle.enc_laws.specs.Formulas.{common_clauses, layout_has_room}
 use Rattle.enc_laws.specs.CutClauses.{cuts_clauses}
 use Rattle.enc_laws.specs.Rests.{IsPlaced}
 use Rattle.enc_laws.specs.Cuts.{cuts_hold}
 use Rattle.enc_laws.specs.ByPairs.{part_minimum, formula_by}
-use Rattle.enc_laws.specs.Ssv.{ssv_sound}
+use Rattle.enc_laws.specs.Ssv.{pairs_low, normal_form_allowed, ssv_sound}
 use Rattle.strong_theory.specs.Strong.{strengthened, strong_live, strong_formula}
 use Rattle.strong_laws.specs.Strengthened.{strong_bits, strengthened_holds, strengthened_has}
 use Rattle.strong_laws.specs.StrongClauses.{strengthened_is_formula}
@@ -79,9 +79,6 @@ module _ (pairs : ℕ → List Pair) (w : Words) (basis r : ℕ) (below : AreBel
 
 -- ---- strong
 
-pairs_low : (basis : ℕ) (w : Words) → AreBelow w.n (pairs_below (swap_closed (members basis)))
-pairs_low basis w = pairs_are_below (swap_closed (members basis)) w.n
-
 -- What satisfies the formula satisfies that of SSV.
 pub strong_has_ssv : (w : Words) (basis r : ℕ) (v : Assignment) → Satisfies v (strong_formula w basis r) → Satisfies v (ssv_formula w basis r)
 unfolding strong_formula strong_live ssv_formula
@@ -90,15 +87,6 @@ strong_has_ssv w basis r v satisfies = strengthened_has (live_words w) (sizes_of
 -- If the formula is satisfiable, a chain of r steps over the basis implements the tables.
 pub strong_sound : (w : Words) (basis r : ℕ) → IsSatisfiable (strong_formula w basis r) → HasChain (specification w) (members basis) r
 strong_sound w basis r (v, satisfies) = ssv_sound w basis r (v, strong_has_ssv w basis r v satisfies)
-
--- the pairs of a chain in normal form are those of the encoding
-normal_form_allowed : (w : Words) (basis r : ℕ) (c : Chain) → IsFor w basis r c → IsNormalForm (members basis) (specification w) c → IsAllowed (pairs_below (swap_closed (members basis))) w r c
-normal_form_allowed w basis r c is normal_form = record {
-  each = λ i place.
-      let below = step_below w basis r c is i place in
-      pair_is_there (swap_closed (members basis)) i (step_at c i).j (step_at c i).k (record { j_from = below.j_from; j_below = below.j_below; k_from = below.k_from; k_below = below.k_below })
-      (λ closed. normal_form.operands_rise closed (i - (c.n + 1)) (step_at c i) (step_there w basis r c is i place));
-}
 
 -- If a chain of r steps over the basis implements the tables and none of fewer steps does, the formula is
 -- satisfiable.

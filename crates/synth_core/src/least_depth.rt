@@ -17,6 +17,7 @@ use cert_text::write_certificate;
 use cert_theory::{Certificate, Verdict};
 use depth_core::{DepthCertificate, DepthResult, least_depth, write_depth};
 use depth_theory::DepthVerdict;
+use progress::Tell;
 use sat_solve::Solver;
 use settings::SynthSettings;
 use std::alloc::{AllocError, Global};
@@ -62,12 +63,13 @@ fn certificate_written(alloc: Global, certificate: &Certificate) -> Result<Vec<u
 
 /// Searches with the solver `S` for a chain of the fewest steps that implements the tables in the input, and among
 /// the chains of that size for one of the fewest levels, and writes the certificate. A line after the tables is
-/// refused as `BadRow`.
+/// refused as `BadRow`. `tell` hears of each subproblem.
 #[tactic(auto, using(crate::proofs::DepthCertified::certifying))]
-pub fn certify_depth<S: Solver>(
+pub fn certify_depth<S: Solver, T: Tell>(
     alloc: Global,
     bytes: &[u8],
     settings: &SynthSettings,
+    tell: &T,
 ) -> Result<CertifiedDepth, SpecError>
     requires length { length bytes.now < 2 ^ 31 }
     requires range { IsInRange settings.now }
@@ -76,13 +78,14 @@ pub fn certify_depth<S: Solver>(
     ensures refusal { IfErr result (λ e. Fails e (tables_alone (lines_of bytes.now))) }
 {
     let spec = tables(alloc, bytes)?;
-    match least_depth::<S>(
+    match least_depth::<S, T>(
         alloc,
         &spec,
         settings.basis,
         settings.max,
         settings.conflicts,
         settings.effort,
+        tell,
     )? {
         DepthResult::Least(certificate) => {
             let text = depth_written(alloc, &certificate)?;

@@ -12,7 +12,8 @@
 //!
 //! ```text
 //! let begun = begin(alloc, b"inputs 2\n0110\n", &SynthSettings::defaults())?;
-//! let piece = next_piece::<Cdcl>(alloc, begun.search)?; // section of size 0; at last the trailer, Minimum(1)
+//! // the section of size 0; at last the trailer, Minimum(1)
+//! let piece = next_piece::<Cdcl, Silent>(alloc, begun.search, &Silent)?;
 //! ```
 #![tactic(auto)]
 

@@ -13,6 +13,7 @@ use crate::counting::used_inputs;
 use crate::reading::tables;
 use cert_text::{write_header, write_section, write_trailer};
 use cert_theory::Verdict;
+use progress::Tell;
 use sat_solve::Solver;
 use settings::{Method, SynthSettings, method_for};
 use size_loop::{Advance, SizeSearch};
@@ -79,15 +80,19 @@ pub fn begin(
     Ok(BegunSynthesis { search, text })
 }
 
-/// Searches the next size with the solver `S`, and writes what it adds.
+/// Searches the next size with the solver `S`, and writes what it adds. `tell` hears of each subproblem.
 #[tactic(auto, using(crate::proofs::InProgress::in_progress))]
-pub fn next_piece<S: Solver>(alloc: Global, search: SizeSearch) -> Result<Piece, AllocError>
+pub fn next_piece<S: Solver, T: Tell>(
+    alloc: Global,
+    search: SizeSearch,
+    tell: &T,
+) -> Result<Piece, AllocError>
     ensures piece { IfOk result (λ piece. (bytes : List ℕ) (settings : SynthSettings) (before : List ℕ) →
         IsInProgress bytes settings search before → IsNextPiece bytes settings before piece) }
     ensures up { IfOk result (λ piece. Rises search piece) }
 {
     let mut text = Vec::new(alloc);
-    match search.advance::<S>(alloc)? {
+    match search.advance::<S, T>(alloc, tell)? {
         Advance::Section { rest, section } => {
             write_section(&section, &mut text)?;
             Ok(Piece::Section { search: rest, text })

@@ -14,6 +14,15 @@ const WRITTEN_STEP: u64 = 262_144;
 /// So many gates go through stages from one line to the next.
 const GATES_STEP: u64 = 1_000;
 
+/// The windows of so many roots are attempted from one line to the next.
+const ROOTS_STEP: u64 = 500;
+
+/// So many lines are added to logs from one line to the next.
+const LINES_STEP: u64 = 2_000;
+
+/// Comparisons of gates may take so many conflicts from one line to the next.
+const CONFLICTS_STEP: u64 = 50_000;
+
 /// The line of progress.
 #[derive(Drop)]
 pub struct Terminal<'a> {
@@ -23,6 +32,11 @@ pub struct Terminal<'a> {
     read: Cell<u64>,
     written: Cell<u64>,
     gates: Cell<u64>,
+    rounds: Cell<u64>,
+    roots: Cell<u64>,
+    lines: Cell<u64>,
+    shown_lines: Cell<u64>,
+    conflicts: Cell<u64>,
 }
 
 /// Whether the work has come to a further step, which is kept then.
@@ -32,6 +46,22 @@ fn is_due(last: &Cell<u64>, step: u64) -> bool {
     }
     last.set(step);
     true
+}
+
+/// Adds to the work since the last line. Whether it is enough for the next one, from which it is counted again.
+fn is_enough(work: &Cell<u64>, more: u64, step: u64) -> bool {
+    let now = work.get().saturating_add(more);
+    if now < step {
+        work.set(now);
+        return false;
+    }
+    work.set(0);
+    true
+}
+
+/// Adds to a sum.
+fn add(sum: &Cell<u64>, more: u64) {
+    sum.set(sum.get().saturating_add(more));
 }
 
 impl<'a> Terminal<'a> {
@@ -44,6 +74,11 @@ impl<'a> Terminal<'a> {
             read: Cell::new(0),
             written: Cell::new(0),
             gates: Cell::new(0),
+            rounds: Cell::new(0),
+            roots: Cell::new(0),
+            lines: Cell::new(0),
+            shown_lines: Cell::new(0),
+            conflicts: Cell::new(0),
         }
     }
 
@@ -77,11 +112,38 @@ impl<'a> Terminal<'a> {
 
     /// Shows how many gates are left.
     fn show_gates(&self, gates: usize) {
-        let before = self.gates.get();
-        let now = before.saturating_add(gates as u64);
-        self.gates.set(now);
-        if now / GATES_STEP != before / GATES_STEP {
+        if is_enough(&self.gates, gates as u64, GATES_STEP) {
             let _ = eprint!(self.rt; "\r{gates} gates left\u{1b}[K");
+            self.is_shown.set(true);
+        }
+    }
+
+    /// Shows how many roots a round has behind it.
+    fn show_root(&self, done: u32, all: u32) {
+        if is_enough(&self.roots, 1, ROOTS_STEP) {
+            let round = self.rounds.get();
+            let _ = eprint!(self.rt; "\rround {round}: windows of {done} of {all} gates\u{1b}[K");
+            self.is_shown.set(true);
+        }
+    }
+
+    /// Shows which subproblem is searched.
+    fn show_subproblem(&self, size: u32, number: usize, all: usize) {
+        let lines = self.lines.get();
+        if is_due(&self.shown_lines, lines / LINES_STEP) {
+            let _ = eprint!(self.rt;
+                "\rsize {size}: part {number} of {all}, {lines} lines of logs\u{1b}[K"
+            );
+            self.is_shown.set(true);
+        }
+    }
+
+    /// Shows how many gates a round of comparisons has behind it.
+    fn show_compared(&self, done: u32, all: u32, limit: u32) {
+        if is_enough(&self.conflicts, u64::from(limit), CONFLICTS_STEP) {
+            let _ = eprint!(self.rt;
+                "\r{done} of {all} gates compared, {limit} conflicts each\u{1b}[K"
+            );
             self.is_shown.set(true);
         }
     }
@@ -96,6 +158,11 @@ impl<'a> Tell for Terminal<'a> {
             Progress::Read(bytes) => self.show_read(bytes),
             Progress::Written(written) => self.show_written(written),
             Progress::Gates(gates) => self.show_gates(gates),
+            Progress::Round => add(&self.rounds, 1),
+            Progress::Root { done, all } => self.show_root(done, all),
+            Progress::Subproblem { size, number, all } => self.show_subproblem(size, number, all),
+            Progress::Logged(lines) => add(&self.lines, lines as u64),
+            Progress::Compared { done, all, limit } => self.show_compared(done, all, limit),
             Progress::Text => self.wipe(),
         }
     }

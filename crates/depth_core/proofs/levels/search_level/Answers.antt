@@ -25,41 +25,41 @@ loop-subproblem-preserved g c =
 pub try_fence-requires-clause-subproblem : goal.try_fence-requires-clause-subproblem
 try_fence-requires-clause-subproblem g c =
     let h = c.args.header.now in
-    let own : c.in_ok-subproblem-items.subproblem-items.items ≡ filter (at_level c.args.levels) (subproblems_for h.spec c.args.size) =
-    c.in_ok-subproblem-items.ensures ∙ ap (λ (ps : List Subproblem). filter (at_level c.args.levels) ps) c.requires.subproblems in
+    let own : c.in_ok-own.own.items ≡ filter (at_level c.args.levels) (subproblems_for h.spec c.args.size) =
+    c.in_ok-own.ensures ∙ ap (λ (ps : List Subproblem). filter (at_level c.args.levels) ps) c.requires.subproblems in
     let gives = c.into_iter-subproblem-iterator.ensures.into_iter_gives in
-    let turn = YieldsList-turn (YieldsList-from_vec c.in_ok-subproblem-items.subproblem-items.items gives.0 (gives.1
-    ∙ c.in_ok-subproblem-items.subproblem-items.ok.0)) c.loop-subproblem.yielded
+    let turn = YieldsList-turn (YieldsList-from_vec c.in_ok-own.own.items gives.0 (gives.1
+    ∙ c.in_ok-own.own.ok.0)) c.loop-subproblem.yielded
     c.loop-subproblem.subproblem-iterator c.loop-subproblem.yielded_by c.next.result c.next.new.self
     c.in-Some.subproblem c.in-Some.is c.next.ensures.steps in
-    let inside : Contains c.in_ok-subproblem-items.subproblem-items.items c.in-Some.subproblem = (length c.loop-subproblem.yielded, turn.0, sym turn.1) in
-    (level_subproblem h.spec c.args.size c.args.levels c.in_ok-subproblem-items.subproblem-items.items c.in-Some.subproblem own inside).0
+    let inside : Contains c.in_ok-own.own.items c.in-Some.subproblem = (length c.loop-subproblem.yielded, turn.0, sym turn.1) in
+    (level_subproblem h.spec c.args.size c.args.levels c.in_ok-own.own.items c.in-Some.subproblem own inside).0
 
 pub returns-in-Found : goal.returns-in-Found
 returns-in-Found g c =
     let h = c.args.header.now in
-    let own : c.in_ok-subproblem-items.subproblem-items.items ≡ filter (at_level c.args.levels) (subproblems_for h.spec c.args.size) =
-    c.in_ok-subproblem-items.ensures ∙ ap (λ (ps : List Subproblem). filter (at_level c.args.levels) ps) c.requires.subproblems in
+    let own : c.in_ok-own.own.items ≡ filter (at_level c.args.levels) (subproblems_for h.spec c.args.size) =
+    c.in_ok-own.ensures ∙ ap (λ (ps : List Subproblem). filter (at_level c.args.levels) ps) c.requires.subproblems in
     let gives = c.into_iter-subproblem-iterator.ensures.into_iter_gives in
-    let turn = YieldsList-turn (YieldsList-from_vec c.in_ok-subproblem-items.subproblem-items.items gives.0 (gives.1
-    ∙ c.in_ok-subproblem-items.subproblem-items.ok.0)) c.loop-subproblem.yielded
+    let turn = YieldsList-turn (YieldsList-from_vec c.in_ok-own.own.items gives.0 (gives.1
+    ∙ c.in_ok-own.own.ok.0)) c.loop-subproblem.yielded
     c.loop-subproblem.subproblem-iterator c.loop-subproblem.yielded_by c.next.result c.next.new.self
     c.in-Some.subproblem c.in-Some.is c.next.ensures.steps in
-    let inside : Contains c.in_ok-subproblem-items.subproblem-items.items c.in-Some.subproblem = (length c.loop-subproblem.yielded, turn.0, sym turn.1) in
-    let picked = level_subproblem h.spec c.args.size c.args.levels c.in_ok-subproblem-items.subproblem-items.items c.in-Some.subproblem own inside in
+    let inside : Contains c.in_ok-own.own.items c.in-Some.subproblem = (length c.loop-subproblem.yielded, turn.0, sym turn.1) in
+    let picked = level_subproblem h.spec c.args.size c.args.levels c.in_ok-own.own.items c.in-Some.subproblem own inside in
     let tried = subst (λ (outcome : SubproblemOutcome). IsTriedLow h c.args.size c.in-Some.subproblem outcome) c.in-Found.is c.in_ok-chain.ensures in
     (tried.0, subst (λ (d : ℕ). HasLevels d c.in-Found.chain) picked.1 tried.1)
 
 pub returns : goal.returns
 returns g c =
     let h = c.args.header.now in
-    let own : c.in_ok-subproblem-items.subproblem-items.items ≡ filter (at_level c.args.levels) (subproblems_for h.spec c.args.size) =
-    c.in_ok-subproblem-items.ensures ∙ ap (λ (ps : List Subproblem). filter (at_level c.args.levels) ps) c.requires.subproblems in
+    let own : c.in_ok-own.own.items ≡ filter (at_level c.args.levels) (subproblems_for h.spec c.args.size) =
+    c.in_ok-own.ensures ∙ ap (λ (ps : List Subproblem). filter (at_level c.args.levels) ps) c.requires.subproblems in
     let gives = c.into_iter-subproblem-iterator.ensures.into_iter_gives in
-    let end = YieldsList-end (YieldsList-from_vec c.in_ok-subproblem-items.subproblem-items.items gives.0 (gives.1
-    ∙ c.in_ok-subproblem-items.subproblem-items.ok.0)) c.loop-subproblem.yielded
+    let end = YieldsList-end (YieldsList-from_vec c.in_ok-own.own.items gives.0 (gives.1
+    ∙ c.in_ok-own.own.ok.0)) c.loop-subproblem.yielded
     c.loop-subproblem.subproblem-iterator c.loop-subproblem.yielded_by c.next.result c.next.new.self c.in-None.is
     c.next.ensures.steps in
-    let all : c.loop-subproblem.yielded ≡ c.in_ok-subproblem-items.subproblem-items.items = sym (map-id c.loop-subproblem.yielded) ∙ end.0 in
-    level_all h c.args.size c.args.levels c.in_ok-subproblem-items.subproblem-items.items c.loop-subproblem.logs.items own
+    let all : c.loop-subproblem.yielded ≡ c.in_ok-own.own.items = sym (map-id c.loop-subproblem.yielded) ∙ end.0 in
+    level_all h c.args.size c.args.levels c.in_ok-own.own.items c.loop-subproblem.logs.items own
     (subst (λ (ps : List Subproblem). AreLogged h c.args.size ps c.loop-subproblem.logs.items) all c.loop-subproblem.invariant)

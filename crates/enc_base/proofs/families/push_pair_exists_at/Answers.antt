@@ -10,5 +10,5 @@ loop-slot-preserved c = record {
   same = grind (arith, loops);
   within = slot_pushed c.args.list.now.vars c.args.step.now.place c.loop-slot.slot-index c.args.step.now.slots
       c.slots-slot-items.result.now _ _ c.loop-slot.raws.items c.push.new.self.items c.slots-slot-items.ensures
-      c.requires.slots.slots c.loop-slot-test.true c.in_ok-push.ensures.items c.loop-slot.invariant.within;
+      c.requires.each c.loop-slot-test.true c.in_ok-push.ensures.items c.loop-slot.invariant.within;
 }

@@ -1,7 +1,7 @@
-use Rattle.std.proofs.Common.{◌∙◌, ℕ, length, refl, ap}
-use Rattle.net_theory.specs.declared.data.Gate.{Gate}
+use Rattle.std.proofs.Common.{◌∙◌, ◌*◌, ℕ, length, take, refl, ap}
 use Rattle.lane_sim.specs.Above.{with_gates}
-use Rattle.lane_sim.specs.AboveLaws.{base_code, few_words, done_all, words_below}
+use Rattle.lane_sim.specs.AboveLaws.{base_done, few_words, done_all, words_below}
+use Rattle.lane_sim.specs.Cone.{nodes}
 use Rattle.lane_sim.specs.Words.{Words, AreWords, width_of}
 use Rattle.lane_sim.proofs.above.simulate_above.Goals as goal
 
@@ -13,11 +13,11 @@ simulate_rest-requires-clause-width c =
 
 pub simulate_rest-requires-clause-base : goal.simulate_rest-requires-clause-base
 simulate_rest-requires-clause-base c =
-    base_code c.args.cone.now c.args.above.now c.args.words.now c.width_of-width.result (length c.leaves.result.now)
-    (length c.gates.result.now) c.words.inside.lanes.items c.truncate.new.self.items c.requires.words
-    (c.width_of-width.ensures ∙ ap (λ (w : Words). width_of w.rows) c.words.view_is)
-    (ap (length {A = ℕ}) c.leaves.ensures.value) (ap (length {A = ℕ × Gate}) c.gates.ensures.value)
-    (ap (λ (w : Words). w.lanes) c.words.view_is) c.truncate.ensures.items
+    let width = c.width_of-width.result in
+    let kept : ℕ = length (nodes c.args.cone.now) * width in
+    base_done c.args.cone.now c.args.above.now c.args.words.now width kept (take kept c.words.inside.lanes.items) c.requires.words
+    (c.width_of-width.ensures ∙ ap (λ (w : Words). width_of w.rows) c.words.view_is) refl
+    (ap (λ (w : Words). take kept w.lanes) c.words.view_is)
 
 pub returns-clause-below : goal.returns-clause-below
 returns-clause-below c =

@@ -1,8 +1,17 @@
-use Rattle.std.proofs.Common.{◌<◌, ◌^◌, ◌∷◌, arith, length, subst}
+use Rattle.std.proofs.Common.{ℕ, ◌<◌, ◌^◌, List, ◌∷◌, arith, length, ap, sym, subst}
+use Rattle.net_theory.specs.declared.data.Gate.{Gate}
 use Rattle.lane_sim.specs.Above.{with_gates, AreDone}
-use Rattle.lane_sim.specs.AboveLaws.{next_operand, next_ends, done_more}
+use Rattle.lane_sim.specs.AboveLaws.{kept_code, next_operand, next_ends, done_more}
 use Rattle.lane_sim.specs.LaneLaws.{gate_over}
 use Rattle.lane_sim.proofs.above.simulate_rest.Goals as goal
+
+pub loop-first-init : goal.loop-first-init
+loop-first-init c =
+    let cone = c.args.cone.now in
+    let above = c.args.above.now in
+    let kept = kept_code cone c.args.width (length c.leaves.result.now) (length c.gates.result.now) c.args.lanes.now.items
+    c.truncate.new.self.items (ap (length {A = ℕ}) c.leaves.ensures.value) (ap (length {A = ℕ × Gate}) c.gates.ensures.value) c.truncate.ensures.items in
+    subst (λ (ls : List ℕ). AreDone (with_gates cone above) c.args.width ls above) (sym kept) c.requires.base
 
 pub push_row-requires-clause-first : goal.push_row-requires-clause-first
 push_row-requires-clause-first c =

@@ -1,5 +1,5 @@
 use Rattle.std.proofs.Common.{◌≡◌, length}
-use Rattle.lrat_check.specs.LiteralMarks.{marked, HasRoom}
+use Rattle.lrat_check.specs.LiteralMarks.{marked}
 use Rattle.lrat_check.specs.Live.{live_at}
 use Rattle.lrat_check.specs.Hints.{hints_fault}
 use Rattle.lrat_check.proofs.hints.check_hints.Given as goal
@@ -7,7 +7,7 @@ use Rattle.lrat_check.proofs.hints.check_hints.Given as goal
 abbrev pub invariant-loop-hint : goal.invariant-loop-hint
 invariant-loop-hint l = record {
   same : hints_fault (live_at l.clauses) (marked l.marks) l.left ≡ hints_fault (live_at l.clauses) (marked l.initial.marks) l.hints;
-  room : HasRoom l.marks l.vars;
+  room : length l.marks.stamps ≡ length l.initial.marks.stamps;
 }
 
 abbrev pub decreases-loop-hint : goal.decreases-loop-hint
