@@ -197,7 +197,8 @@ pub settings_back : (basis : Option ℕ) (method : Option Method) (cap rounds co
     (observe : Option Bool) (effort seed : Option ℕ) (s : ImproveSettings) →
     AreSettingsOf basis method cap rounds conflicts observe effort seed s →
     settings_from basis method cap rounds conflicts observe effort seed ≡ Some s
-settings_back basis method cap rounds conflicts observe effort seed s are = rw (are.basis_is, are.method_is, are.cap_is, are.rounds_is, are.conflicts_is, are.observe_is, are.effort_is, are.seed_is) refl
+settings_back basis method cap rounds conflicts observe effort seed s are =
+    rw (are.basis_is, are.method_is, are.cap_is, are.rounds_is, are.conflicts_is, are.observe_is, are.effort_is, are.seed_is) refl
 
 -- those of words, by a format
 abbrev pub AreSettingsIn : List (List ℕ) → Format → ImproveSettings → Type 0
@@ -243,54 +244,36 @@ blocks_range words n e =
     (λ (x : ℕ) at. absurd cc)
     (word_after blocks_row.name words) n e
 
+-- a number that an option has is in the option's range, if its default is
+row_range : (row : OptionRow ℕ) (low high default : ℕ) (words : List (List ℕ)) (n : ℕ) → high < 2 ^ 64 →
+    ((word : List ℕ) → row.read word ≡ number_within low high word) → row.default ≡ Some default →
+    (low ≤ default) × (default ≤ high) → value row words ≡ Some n → (low ≤ n) × (n ≤ high)
+row_range row low high default words n fits reads is inside e =
+    in_row row (λ (x : ℕ). (low ≤ x) × (x ≤ high))
+    (λ (word : List ℕ) (x : ℕ) at. number_range low high x word fits (sym (reads word) ∙ at))
+    (λ (x : ℕ) at. subst (λ (y : ℕ). (low ≤ y) × (y ≤ high)) (some_is default x (sym is ∙ at)) inside)
+    (word_after row.name words) n e
+
 max_range : (words : List (List ℕ)) (n : ℕ) → value max_row words ≡ Some n → n ≤ most_steps
-max_range words n e =
-    in_row max_row (λ (x : ℕ). x ≤ most_steps)
-    (λ (word : List ℕ) (x : ℕ) at. (number_range 0 most_steps x word (omega arith) at).1)
-    (λ (x : ℕ) at. let same = some_is most_steps x at in omega (arith, same))
-    (word_after max_row.name words) n e
+max_range words n e = (row_range max_row 0 most_steps most_steps words n (omega arith) (λ word. refl) refl (omega arith, omega arith) e).1
 
 cap_range : (words : List (List ℕ)) (n : ℕ) → value cap_row words ≡ Some n → n ≤ most_gates_of_window
-cap_range words n e =
-    in_row cap_row (λ (x : ℕ). x ≤ most_gates_of_window)
-    (λ (word : List ℕ) (x : ℕ) at. (number_range 0 most_gates_of_window x word (omega arith) at).1)
-    (λ (x : ℕ) at. let same = some_is 5 x at in omega (arith, same))
-    (word_after cap_row.name words) n e
+cap_range words n e = (row_range cap_row 0 most_gates_of_window 5 words n (omega arith) (λ word. refl) refl (omega arith, omega arith) e).1
 
 effort_range : (words : List (List ℕ)) (n : ℕ) → value effort_row words ≡ Some n → n ≤ most_effort
-effort_range words n e =
-    in_row effort_row (λ (x : ℕ). x ≤ most_effort)
-    (λ (word : List ℕ) (x : ℕ) at. (number_range 0 most_effort x word (omega arith) at).1)
-    (λ (x : ℕ) at. let same = some_is 0 x at in omega (arith, same))
-    (word_after effort_row.name words) n e
+effort_range words n e = (row_range effort_row 0 most_effort 0 words n (omega arith) (λ word. refl) refl (omega arith, omega arith) e).1
 
 synth_effort_range : (words : List (List ℕ)) (n : ℕ) → value synth_effort_row words ≡ Some n → n ≤ most_effort
-synth_effort_range words n e =
-    in_row synth_effort_row (λ (x : ℕ). x ≤ most_effort)
-    (λ (word : List ℕ) (x : ℕ) at. (number_range 0 most_effort x word (omega arith) at).1)
-    (λ (x : ℕ) at. let same = some_is 1 x at in omega (arith, same))
-    (word_after synth_effort_row.name words) n e
+synth_effort_range words n e = (row_range synth_effort_row 0 most_effort 1 words n (omega arith) (λ word. refl) refl (omega arith, omega arith) e).1
 
 seed_range : (words : List (List ℕ)) (n : ℕ) → value seed_row words ≡ Some n → n ≤ most_seed
-seed_range words n e =
-    in_row seed_row (λ (x : ℕ). x ≤ most_seed)
-    (λ (word : List ℕ) (x : ℕ) at. (number_range 0 most_seed x word (omega arith) at).1)
-    (λ (x : ℕ) at. let same = some_is 1 x at in omega (arith, same))
-    (word_after seed_row.name words) n e
+seed_range words n e = (row_range seed_row 0 most_seed 1 words n (omega arith) (λ word. refl) refl (omega arith, omega arith) e).1
 
 rounds_range : (words : List (List ℕ)) (n : ℕ) → value rounds_row words ≡ Some n → (1 ≤ n) × (n ≤ most_rounds)
-rounds_range words n e =
-    in_row rounds_row (λ (x : ℕ). (1 ≤ x) × (x ≤ most_rounds))
-    (λ (word : List ℕ) (x : ℕ) at. number_range 1 most_rounds x word (omega arith) at)
-    (λ (x : ℕ) at. let same = some_is 1000 x at in (omega (arith, same), omega (arith, same)))
-    (word_after rounds_row.name words) n e
+rounds_range words n e = row_range rounds_row 1 most_rounds 1000 words n (omega arith) (λ word. refl) refl (omega arith, omega arith) e
 
 conflicts_range : (words : List (List ℕ)) (n : ℕ) → value conflicts_row words ≡ Some n → (1 ≤ n) × (n ≤ most_conflicts)
-conflicts_range words n e =
-    in_row conflicts_row (λ (x : ℕ). (1 ≤ x) × (x ≤ most_conflicts))
-    (λ (word : List ℕ) (x : ℕ) at. number_range 1 most_conflicts x word (omega arith) at)
-    (λ (x : ℕ) at. let same = some_is default_conflicts x at in (omega (arith, same), omega (arith, same)))
-    (word_after conflicts_row.name words) n e
+conflicts_range words n e = row_range conflicts_row 1 most_conflicts default_conflicts words n (omega arith) (λ word. refl) refl (omega arith, omega arith) e
 
 bases_range : (words : List (List ℕ)) (n : ℕ) → value basis_row words ≡ Some n → 0 < n
 bases_range words n e =

@@ -25,6 +25,11 @@ enum Fault<'a> {
     BadValue(Row, &'a [u8]),
     /// This file is one too many.
     TooMany(&'a [u8]),
+}
+
+/// The first fault of options taken together.
+#[derive(Clone, Copy)]
+enum Clash<'a> {
     /// This option is needed.
     Needed(Row),
     /// `--least-depth yes` without `--method fence`.
@@ -153,9 +158,9 @@ fn is_bench(words: &[String]) -> bool {
 }
 
 /// What options of `improve` ask of each other.
-fn improve_fault(words: &[String]) -> Option<Fault<'_>> {
+fn improve_clash(words: &[String]) -> Option<Clash<'_>> {
     match value_of(b"--basis", words) {
-        Some(basis) if is_bench(words) && is_beyond_bench(basis) => Some(Fault::NotOfBench(basis)),
+        Some(basis) if is_bench(words) && is_beyond_bench(basis) => Some(Clash::NotOfBench(basis)),
         _ => None,
     }
 }
@@ -169,51 +174,51 @@ fn is_one_file(name: &[u8], words: &[String]) -> bool {
 }
 
 /// What the file of a log needs.
-fn formula_fault(words: &[String]) -> Option<Fault<'_>> {
+fn formula_clash(words: &[String]) -> Option<Clash<'_>> {
     let Some(log) = value_of(b"--log", words) else {
         return None;
     };
     if log == b"-".as_slice() {
-        return Some(Fault::LogToOutput);
+        return Some(Clash::LogToOutput);
     }
     if is_one_file(b"--log", words) {
-        return Some(Fault::OneFile(b"--log"));
+        return Some(Clash::OneFile(b"--log"));
     }
     match first_file(words) {
         Some(file) if file != b"-".as_slice() => None,
-        _ => Some(Fault::LogOfInput),
+        _ => Some(Clash::LogOfInput),
     }
 }
 
 /// What options of `synth` ask of each other.
-fn synth_fault(words: &[String]) -> Option<Fault<'_>> {
+fn synth_clash(words: &[String]) -> Option<Clash<'_>> {
     if has_value(b"--least-depth", b"yes", words) && !has_value(b"--method", b"fence", words) {
-        return Some(Fault::NotByFence);
+        return Some(Clash::NotByFence);
     }
     None
 }
 
 /// What `gen` needs.
-fn gen_fault(words: &[String]) -> Option<Fault<'_>> {
+fn gen_clash(words: &[String]) -> Option<Clash<'_>> {
     if value_of(b"--blocks", words).is_some() {
         return None;
     }
     match row_named(CommandName::Gen, b"--blocks") {
-        Some(row) => Some(Fault::Needed(row)),
+        Some(row) => Some(Clash::Needed(row)),
         None => None,
     }
 }
 
 /// What options ask of each other.
-fn fault_together(command: CommandName, words: &[String]) -> Option<Fault<'_>> {
+fn first_clash(command: CommandName, words: &[String]) -> Option<Clash<'_>> {
     if is_one_file(b"--certificate", words) {
-        return Some(Fault::OneFile(b"--certificate"));
+        return Some(Clash::OneFile(b"--certificate"));
     }
     match command {
-        CommandName::Synth => synth_fault(words),
-        CommandName::Improve => improve_fault(words),
-        CommandName::Gen => gen_fault(words),
-        CommandName::Formula => formula_fault(words),
+        CommandName::Synth => synth_clash(words),
+        CommandName::Improve => improve_clash(words),
+        CommandName::Gen => gen_clash(words),
+        CommandName::Formula => formula_clash(words),
         CommandName::Recheck | CommandName::Agree | CommandName::Equiv => None,
     }
 }
@@ -244,12 +249,14 @@ fn push_word(
     push_parts(text, &[Part::Text(b"'"), Part::Text(after)])
 }
 
-/// Appends what is wrong.
+/// Appends what is wrong with a word.
 fn push_fault(text: &mut Vec<u8>, command: CommandName, fault: Fault) -> Result<(), AllocError> {
-    let name = name_of(command);
     match fault {
         Fault::NoOption(word) => {
-            push_parts(text, &[Part::Text(name), Part::Text(b" has no option ")])?;
+            push_parts(
+                text,
+                &[Part::Text(name_of(command)), Part::Text(b" has no option ")],
+            )?;
             push_word(text, b"", word, b"; it has")?;
             push_names(text, command)
         }
@@ -273,20 +280,29 @@ fn push_fault(text: &mut Vec<u8>, command: CommandName, fault: Fault) -> Result<
             push_word(text, b", and not ", word, b"")
         }
         Fault::TooMany(word) => push_too_many(text, command, word),
-        Fault::Needed(row) => {
-            push_parts(text, &[Part::Text(name), Part::Text(b" needs ")])?;
+    }
+}
+
+/// Appends what options don't allow together.
+fn push_clash(text: &mut Vec<u8>, command: CommandName, clash: Clash) -> Result<(), AllocError> {
+    match clash {
+        Clash::Needed(row) => {
+            push_parts(
+                text,
+                &[Part::Text(name_of(command)), Part::Text(b" needs ")],
+            )?;
             push_takes(text, &row, b" with a value: ")
         }
-        Fault::NotByFence => text.extend_from_slice(
+        Clash::NotByFence => text.extend_from_slice(
             b"--least-depth yes goes with --method fence alone",
         ),
-        Fault::NotOfBench(word) => push_word(
+        Clash::NotOfBench(word) => push_word(
             text,
             b"with --format bench the basis has operators of bench alone, and not ",
             word,
             b"",
         ),
-        Fault::OneFile(name) => push_parts(
+        Clash::OneFile(name) => push_parts(
             text,
             &[
                 Part::Text(b"-o and "),
@@ -294,10 +310,10 @@ fn push_fault(text: &mut Vec<u8>, command: CommandName, fault: Fault) -> Result<
                 Part::Text(b" name one file"),
             ],
         ),
-        Fault::LogToOutput => text.extend_from_slice(
+        Clash::LogToOutput => text.extend_from_slice(
             b"--log names a file, and not standard output",
         ),
-        Fault::LogOfInput => text.extend_from_slice(
+        Clash::LogOfInput => text.extend_from_slice(
             b"with --log the certificate is read twice: it has to be a file",
         ),
     }
@@ -329,19 +345,27 @@ fn push_commands(text: &mut Vec<u8>) -> Result<(), AllocError> {
     Ok(())
 }
 
+/// Appends the first clash of a command's options.
+fn push_first_clash(
+    text: &mut Vec<u8>,
+    command: CommandName,
+    words: &[String],
+) -> Result<(), AllocError> {
+    match first_clash(command, words) {
+        Some(clash) => push_clash(text, command, clash),
+        None => text.extend_from_slice(b"these words are no command line"),
+    }
+}
+
 /// Appends what is wrong with the words of a command.
 fn push_command_fault(
     text: &mut Vec<u8>,
     command: CommandName,
     words: &[String],
 ) -> Result<(), AllocError> {
-    let fault = match word_fault(command, words) {
-        None => fault_together(command, words),
-        found => found,
-    };
-    match fault {
-        Some(found) => push_fault(text, command, found)?,
-        None => text.extend_from_slice(b"these words are no command line")?,
+    match word_fault(command, words) {
+        Some(fault) => push_fault(text, command, fault)?,
+        None => push_first_clash(text, command, words)?,
     }
     push_parts(
         text,

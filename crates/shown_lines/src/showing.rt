@@ -1,5 +1,5 @@
 //! The command that shows lines.
-ghost use Rattle.std.specs.Prelude.{◌≡◌, ℕ, ◌≤◌, List, length};
+ghost use Rattle.std.specs.Prelude.{ℕ, ◌≤◌, List, length};
 ghost use Rattle.frame_core.specs.Views.{Judges};
 ghost use Rattle.line_reader.specs.Reader.{IsReader, StandsFor};
 ghost use Rattle.line_reader.specs.Seen.{seen};
