@@ -1,5 +1,5 @@
 //! Work over inputs and outputs that are named.
-ghost use Rattle.std.specs.Prelude.{◌≡◌, ◌⊎◌};
+ghost use Rattle.std.specs.Prelude.{◌⊎◌};
 ghost use Rattle.frame_core.specs.Run.{before_after};
 ghost use Rattle.file_io.specs.Files.{files_before_after};
 ghost use Rattle.file_io.specs.Served.{Does, IsWritten, IsDelivered, IsUnread, IsOpened, IsRead};

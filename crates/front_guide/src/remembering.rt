@@ -1,5 +1,4 @@
 //! A source and a sink that remember what went through them. Contracts see them as those that they wrap.
-ghost use Rattle.std.specs.Prelude.{◌≡◌};
 
 use port_io::{Failed, Sink, Source};
 use std::alloc::{AllocError, Global};

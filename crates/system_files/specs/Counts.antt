@@ -1,6 +1,5 @@
 -- How many calls on files have failed.
 use Rattle.std.specs.Prelude.{ℕ}
-use Rattle.file_io.specs.declared.calls.Call.{Call}
 use Rattle.file_io.specs.declared.calls.Call.TheVariants.{Open, Create, Keep}
 use Rattle.file_io.specs.Files.{Faults}
 use Rattle.system_files.specs.declared.files.SystemFiles.{SystemFiles}

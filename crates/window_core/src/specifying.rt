@@ -112,7 +112,7 @@ fn gate_word(window: &Window, cone: &Cone, words: &Words, node: u32) -> u64
     requires node { among window.now.gates node ≡ true }
     ensures { HasGateValues cone.now node result }
 {
-    let inputs = window.inputs().len();
+    let inputs = cone.leaves().len();
     lanes_of(words)[inputs + index_of(window.gates(), node)]
 }
 
