@@ -51,7 +51,8 @@ def synth(
     basis : str or sequence of str, optional
         The operators that a step may have: `all` (default), `u2`, `bench`, `nand`, or some of 0000 .. 1111.
     method : {'ssv', 'select', 'fence', 'strong', 'strong-fence', 'plain', 'auto'}, optional
-        How a size becomes a formula; with 'auto' as the tables suggest.
+        How a size becomes a formula; with 'auto' as the tables suggest, which is the default, except with
+        `least_depth`.
     conflicts : int, optional
         The number of learnt clauses after which a formula is left open (100,000).
     max_steps : int, optional
@@ -88,8 +89,8 @@ def synth(
     ('minimum 1', 1)
     """
     asked = tables_of(tables, inputs)
-    if least_depth and method is None:
-        method = 'fence'
+    if method is None:
+        method = 'fence' if least_depth else 'auto'
     engine = engine or default_engine()
     run = answered(
         engine if progress is None else Telling(engine, progress),

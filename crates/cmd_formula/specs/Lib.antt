@@ -3,6 +3,7 @@ pub mod Dimacs
 pub mod FormulaLaws
 pub mod FormulaReport
 pub mod LineLaws
+pub mod LogCounts
 pub mod LogLines
 pub mod PartLaws
 pub mod Parts

@@ -1,7 +1,7 @@
 -- In the text of a valid certificate, the lines that are found are those of the log: no line before the one that is
 -- looked for has its text.
 use Rattle.std.proofs.Common.{◌≡◌, ℕ, zero, suc, ◌+◌, ◌%◌, ◌^◌, ◌<◌, ◌≤◌, Bool, true, false, cond, List}
-use Rattle.std.proofs.Common.{[], ◌∷◌, ◌++◌, length, map, Option, Some, refl, sym, ap, ◌∙◌, subst, arith, append_assoc, append-nil}
+use Rattle.std.proofs.Common.{[], ◌∷◌, ◌++◌, length, map, Option, Some, None, refl, sym, ap, ◌∙◌, subst, arith, append_assoc, append-nil}
 use Rattle.std.specs.Prelude.{codes, decimal, is_some, slice_get}
 use Rattle.std.specs.List.{flat_map, range_with_len, AllByRecursion}
 use Rattle.std.proofs.lemmas.List.Elements.{recursion_from_All}
@@ -16,7 +16,9 @@ use Rattle.text_core.specs.ReadBack.{word_back, number_back}
 use Rattle.chain_theory.specs.declared.data.Cell.{Cell}
 use Rattle.chain_theory.specs.declared.data.Cell.TheVariants.{Zero, One, Free}
 use Rattle.chain_theory.specs.Limits.{most_steps}
-use Rattle.chain_core.specs.Spelling.{line}
+use Rattle.chain_theory.specs.Chain.{Chain, Step}
+use Rattle.chain_theory.specs.declared.data.Out.{Out}
+use Rattle.chain_core.specs.Spelling.{line, step_text, step_lines, out_text, out_line, count_text}
 use Rattle.sat_theory.specs.Line as theory
 use Rattle.sat_theory.specs.Line.{IsLine}
 use Rattle.sat_theory.specs.State.{State, start, next}
@@ -27,17 +29,19 @@ use Rattle.tt_core.specs.Spelling.{character}
 use Rattle.enc_theory.specs.declared.subproblem.Subproblem.{Subproblem}
 use Rattle.enc_theory.specs.declared.subproblem.Subproblem.TheVariants.{Whole, Levels}
 use Rattle.cert_theory.specs.declared.data.Header.{Header}
+use Rattle.cert_theory.specs.declared.data.Verdict.{Verdict}
+use Rattle.cert_theory.specs.declared.data.Verdict.TheVariants as verdicts
 use Rattle.cert_theory.specs.declared.data.LogEnd.{LogEnd}
 use Rattle.cert_theory.specs.declared.data.LogEnd.TheVariants as ends
 use Rattle.cert_theory.specs.Certificate.{SubproblemLog, Section, Certificate, IsSubproblemLog, IsSection, AreSections, IsValid, formula_of}
 use Rattle.cert_theory.specs.Spelling.{table_text, table_line, basis_line, method_line, conflicts_line, max_line, header_lines, size_line}
 use Rattle.cert_theory.specs.Spelling.{fence_text, name_lines, ended_text, done_text, log_line}
-use Rattle.cert_theory.specs.Spelling.{subproblem_lines, section_lines, trailer_lines, certificate_lines, text_of}
+use Rattle.cert_theory.specs.Spelling.{subproblem_lines, section_lines, trailer_lines, certificate_lines, text_of, block_lines, verdict_line, end_text}
 use Rattle.cert_theory.specs.SubproblemLines.{is_line, ended_in}
 use Rattle.cert_laws.specs.LinesAgain.{ended_again}
 use Rattle.cert_laws.specs.SectionLists.{log_holds}
 use Rattle.cert_laws.specs.LineSpellings.{is_line_back}
-use Rattle.cmd_formula.specs.LogLines.{lines_after, lines_before, after_logs, log_from, log_lines}
+use Rattle.cmd_formula.specs.LogLines.{lines_after, lines_before, after_logs, log_from, log_lines, found_lines, has_log}
 
 -- ---- lines without a text
 
@@ -46,18 +50,18 @@ unfoldable pub Without : List ℕ → List Line → Type 0
 Without text [] = Unit {0}
 Without text (l ∷ ls) = (is_line text l ≡ false) × Without text ls
 
-without_both : (text : List ℕ) (xs ys : List Line) → Without text xs → Without text ys → Without text (xs ++ ys)
+pub without_both : (text : List ℕ) (xs ys : List Line) → Without text xs → Without text ys → Without text (xs ++ ys)
 unfolding Without
 without_both text [] ys before more = more
 without_both text (x ∷ xs) ys before more = (before.0, without_both text xs ys before.1 more)
 
 -- they are passed over
-passed : (text : List ℕ) (xs ys : List Line) → Without text xs → lines_after text (xs ++ ys) ≡ lines_after text ys
+pub passed : (text : List ℕ) (xs ys : List Line) → Without text xs → lines_after text (xs ++ ys) ≡ lines_after text ys
 unfolding Without lines_after
 passed text [] ys without = refl
 passed text (x ∷ xs) ys without = ap (λ (t : Bool). cond t (xs ++ ys) (lines_after text (xs ++ ys))) without.0 ∙ passed text xs ys without.1
 
-found_here : (text : List ℕ) (ls : List Line) → lines_after text (line text ∷ ls) ≡ ls
+pub found_here : (text : List ℕ) (ls : List Line) → lines_after text (line text ∷ ls) ≡ ls
 unfolding lines_after
 found_here text ls = ap (λ (t : Bool). cond t ls (lines_after text ls)) (is_line_back text)
 
@@ -142,7 +146,7 @@ unfolding size_line
 ended_not_size size ends.Refuted = refl
 ended_not_size size ends.Open = refl
 
-done_not_size : (size : ℕ) → is_line (size_line size) (line done_text) ≡ false
+pub done_not_size : (size : ℕ) → is_line (size_line size) (line done_text) ≡ false
 unfolding size_line
 done_not_size size = refl
 
@@ -151,22 +155,22 @@ unfolding size_line
 size_lower size = refl
 
 -- the lines of a subproblem before `done`
-abbrev inner : SubproblemLog → List Line
+abbrev pub inner : SubproblemLog → List Line
 inner p = name_lines p.subproblem ++ line (ended_text p.ended) ∷ map log_line p.log
 
-inner_not_done : (h : Header) (size : ℕ) (p : SubproblemLog) → IsSubproblemLog h size p → Without done_text (inner p)
+pub inner_not_done : (h : Header) (size : ℕ) (p : SubproblemLog) → IsSubproblemLog h size p → Without done_text (inner p)
 unfolding Without
 inner_not_done h size p is =
     without_both done_text (name_lines p.subproblem) (line (ended_text p.ended) ∷ map log_line p.log) (name_not_done p.subproblem)
     (ended_not_done p.ended, log_without done_text p.log refl (start (formula_of h size p.subproblem)) (holding h size p is))
 
-inner_not_size : (other : ℕ) (h : Header) (size : ℕ) (p : SubproblemLog) → IsSubproblemLog h size p → Without (size_line other) (inner p)
+pub inner_not_size : (other : ℕ) (h : Header) (size : ℕ) (p : SubproblemLog) → IsSubproblemLog h size p → Without (size_line other) (inner p)
 unfolding Without
 inner_not_size other h size p is =
     without_both (size_line other) (name_lines p.subproblem) (line (ended_text p.ended) ∷ map log_line p.log) (name_not_size other p.subproblem)
     (ended_not_size other p.ended, log_without (size_line other) p.log (size_lower other) (start (formula_of h size p.subproblem)) (holding h size p is))
 
-subproblem_parts : (p : SubproblemLog) (ls : List Line) → subproblem_lines p ++ ls ≡ inner p ++ line done_text ∷ ls
+pub subproblem_parts : (p : SubproblemLog) (ls : List Line) → subproblem_lines p ++ ls ≡ inner p ++ line done_text ∷ ls
 unfolding subproblem_lines
 subproblem_parts p ls =
     append_assoc (name_lines p.subproblem) (line (ended_text p.ended) ∷ (map log_line p.log ++ line done_text ∷ [])) ls
@@ -236,37 +240,41 @@ unfolding AreLogs
 are_logs h size [] all = tt
 are_logs h size (p ∷ ps) all = (all.0, are_logs h size ps all.1)
 
-logs_of : (h : Header) (size : ℕ) (s : Section) → IsSection h size s → AreLogs h size s.subproblems
+pub logs_of : (h : Header) (size : ℕ) (s : Section) → IsSection h size s → AreLogs h size s.subproblems
 logs_of h size s is = are_logs h size s.subproblems (recursion_from_All (IsSubproblemLog h size) s.subproblems is.logs)
 
-section_not_size : (other : ℕ) (h : Header) (size : ℕ) (s : Section) → IsSection h size s → size ≤ most_steps → other ≤ most_steps → (size ≡ other → ⊥) →
+pub section_not_size : (other : ℕ) (h : Header) (size : ℕ) (s : Section) → IsSection h size s → size ≤ most_steps → other ≤ most_steps → (size ≡ other → ⊥) →
     Without (size_line other) (section_lines s)
 unfolding Without section_lines
 section_not_size other h size s is small little none =
     (size_apart s.size other (omega (arith, is.size_is, small)) little (λ same. none (sym is.size_is ∙ same)), subproblems_not_size other h size s.subproblems (logs_of h size s is))
 
-first_section : (t : Section) (ss : List Section) (ls : List Line) →
+pub first_section : (t : Section) (ss : List Section) (ls : List Line) →
     flat_map section_lines (t ∷ ss) ++ ls ≡ line (size_line t.size) ∷ (flat_map subproblem_lines t.subproblems ++ (flat_map section_lines ss ++ ls))
 unfolding section_lines
 first_section t ss ls = append_assoc (line (size_line t.size) ∷ flat_map subproblem_lines t.subproblems) (flat_map section_lines ss) ls
 
+-- the lines of a log after the line of its size
+abbrev pub section_log : ℕ → ℕ → List Line → List Line
+section_log size others ls = found_lines others (lines_after (size_line size) ls)
+
 -- the logs of the section of a size come after the line of the size
-log_in_sections : (h : Header) (k i : ℕ) (ss : List Section) (s : Section) (j : ℕ) (p : SubproblemLog) (ls : List Line) → AreSections h k ss → k + i ≤ most_steps
-    → slice_get ss i ≡ Some s → slice_get s.subproblems j ≡ Some p → log_lines (k + i) j (flat_map section_lines ss ++ ls) ≡ map log_line p.log
+pub log_in_sections : (h : Header) (k i : ℕ) (ss : List Section) (s : Section) (j : ℕ) (p : SubproblemLog) (ls : List Line) → AreSections h k ss → k + i ≤ most_steps
+    → slice_get ss i ≡ Some s → slice_get s.subproblems j ≡ Some p → section_log (k + i) j (flat_map section_lines ss ++ ls) ≡ map log_line p.log
 unfolding AreSections
 log_in_sections h k i [] s j p ls are small is has = absurd cc
 log_in_sections h k zero (t ∷ ss) s j p ls are small is has =
     let same : t ≡ s = cc in
     let other : slice_get t.subproblems j ≡ Some p = ap (λ (x : Section). slice_get x.subproblems j) same ∙ has in
     let size : k + 0 ≡ t.size = omega (arith, are.0.size_is) in
-    ap (λ (n : ℕ). log_lines n j (flat_map section_lines (t ∷ ss) ++ ls)) size
-    ∙ ap (λ (xs : List Line). log_lines t.size j xs) (first_section t ss ls)
+    ap (λ (n : ℕ). section_log n j (flat_map section_lines (t ∷ ss) ++ ls)) size
+    ∙ ap (λ (xs : List Line). section_log t.size j xs) (first_section t ss ls)
     ∙ ap (λ (xs : List Line). lines_before done_text (log_from (after_logs j xs))) (found_here (size_line t.size) (flat_map subproblem_lines t.subproblems ++ (flat_map section_lines ss ++ ls)))
     ∙ log_among h k t.subproblems j p (flat_map section_lines ss ++ ls) (logs_of h k t are.0) other
 log_in_sections h k (suc i) (t ∷ ss) s j p ls are small is has =
     let same : k + suc i ≡ k + 1 + i = omega arith in
-    ap (λ (n : ℕ). log_lines n j (flat_map section_lines (t ∷ ss) ++ ls)) same
-    ∙ ap (λ (xs : List Line). log_lines (k + 1 + i) j xs) (append_assoc (section_lines t) (flat_map section_lines ss) ls)
+    ap (λ (n : ℕ). section_log n j (flat_map section_lines (t ∷ ss) ++ ls)) same
+    ∙ ap (λ (xs : List Line). section_log (k + 1 + i) j xs) (append_assoc (section_lines t) (flat_map section_lines ss) ls)
     ∙ ap (λ (xs : List Line). lines_before done_text (log_from (after_logs j xs)))
     (passed (size_line (k + 1 + i)) (section_lines t) (flat_map section_lines ss ++ ls)
     (section_not_size (k + 1 + i) h k t are.0 (omega (arith, small)) (omega (arith, small)) (λ e. omega (arith, e))))
@@ -297,7 +305,7 @@ four_not_size : (size : ℕ) (h : Header) →
 unfolding Without size_line basis_line method_line conflicts_line max_line
 four_not_size size h = (refl, (refl, (refl, (refl, tt))))
 
-header_not_size : (size : ℕ) (h : Header) → Without (size_line size) (header_lines h)
+pub header_not_size : (size : ℕ) (h : Header) → Without (size_line size) (header_lines h)
 unfolding Without size_line
 header_not_size size h = (
   refl,
@@ -310,19 +318,6 @@ header_not_size size h = (
 
 -- ---- the whole
 
-log_bytes : (log : List theory.Line) → text_of (map log_line log) ≡ flat_map line_text log
+pub log_bytes : (log : List theory.Line) → text_of (map log_line log) ≡ flat_map line_text log
 log_bytes [] = refl
 log_bytes (x ∷ log) = ap (λ (t : List ℕ). line_text x ++ t) (log_bytes log)
-
--- the lines of a part's log
-pub log_found : (b : Certificate) (i : ℕ) (s : Section) (j : ℕ) (p : SubproblemLog) → IsValid b → i ≤ most_steps → slice_get b.sections i ≡ Some s →
-    slice_get s.subproblems j ≡ Some p
-    → text_of (log_lines i j (certificate_lines b)) ≡ flat_map line_text p.log
-log_found b i s j p valid small is has =
-    let rest = flat_map section_lines b.sections ++ trailer_lines b.chain b.verdict in
-    let same : i ≡ 0 + i = omega arith in
-    ap (λ (ls : List Line). text_of (lines_before done_text (log_from (after_logs j ls))))
-    (passed (size_line i) (header_lines b.header) rest (header_not_size i b.header))
-    ∙ ap (λ (n : ℕ). text_of (log_lines n j rest)) same
-    ∙ ap text_of (log_in_sections b.header 0 i b.sections s j p (trailer_lines b.chain b.verdict) valid.sections (omega (arith, small)) is has)
-    ∙ log_bytes p.log

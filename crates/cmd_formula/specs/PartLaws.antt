@@ -1,6 +1,6 @@
 -- The parts of a valid certificate by its header and its chain are those by its sections.
 use Rattle.std.proofs.Common.{◌≡◌, ℕ, zero, suc, ◌+◌, ◌-◌, ◌<◌, ◌≤◌, Bool, true, false, cond, List, [], ◌∷◌}
-use Rattle.std.proofs.Common.{length, map, Option, Some, None, refl, sym, ap, ◌∙◌, subst, arith}
+use Rattle.std.proofs.Common.{length, Option, Some, None, refl, sym, ap, ◌∙◌, subst, arith}
 use Rattle.std.specs.Prelude.{nat_lt, slice_get, option_and_then}
 use Rattle.std.specs.Option.{option_map}
 use Rattle.std.proofs.lemmas.Bool.Decides.{nat_tests}
@@ -12,7 +12,7 @@ use Rattle.enc_theory.specs.declared.subproblem.Subproblem.{Subproblem}
 use Rattle.cert_theory.specs.declared.data.Header.{Header}
 use Rattle.cert_theory.specs.declared.data.Verdict.{Verdict}
 use Rattle.cert_theory.specs.Certificate.{Certificate, Section, SubproblemLog, AreSections, IsSection}
-use Rattle.cert_theory.specs.Certificate.{IsTrailer, IsValid, formula_of, subproblem_of, first_open}
+use Rattle.cert_theory.specs.Certificate.{IsTrailer, IsValid, formula_of, subproblems_of, first_open}
 use Rattle.cert_theory.specs.Spelling.{text_of, certificate_lines, IsCertificateText}
 use Rattle.cert_laws.specs.CertificatesAgain.{lines_again}
 use Rattle.cert_file.specs.Claims.{IsClaim}
@@ -20,9 +20,9 @@ use Rattle.cert_file.specs.ClaimLaws.{own_claim, one_certificate}
 use Rattle.cert_file.specs.declared.claim.Claim.{Claim}
 use Rattle.cmd_formula.specs.Claimed.{IsClaimed, IsFound}
 use Rattle.cmd_formula.specs.Dimacs.{lrat_text}
-use Rattle.cmd_formula.specs.LineLaws.{log_found}
+use Rattle.cmd_formula.specs.LogCounts.{log_found, log_missing}
 use Rattle.cmd_formula.specs.LogLines.{log_lines}
-use Rattle.cmd_formula.specs.Parts.{numbered, size_asked, size_in, Part, part_by, part_in, part_of, count_of, formula_at}
+use Rattle.cmd_formula.specs.Parts.{numbered, size_asked, size_in, Part, log_or_none, log_in, part_by, part_in, part_of, count_of, formula_at}
 
 -- ---- elements of lists
 
@@ -30,15 +30,6 @@ got_none : {X : Type 0} (xs : List X) (i : ℕ) → length xs ≤ i → slice_ge
 got_none [] i high = refl
 got_none (x ∷ xs) zero high = absurd (omega arith)
 got_none (x ∷ xs) (suc i) high = got_none xs i (omega arith)
-
-got_map : {X Y : Type 0} (f : X → Y) (xs : List X) (i : ℕ) → slice_get (map f xs) i ≡ option_map f (slice_get xs i)
-got_map f [] i = refl
-got_map f (x ∷ xs) zero = refl
-got_map f (x ∷ xs) (suc i) = got_map f xs i
-
-numbered_map : {X Y : Type 0} (f : X → Y) (n : ℕ) (xs : List X) → numbered n (map f xs) ≡ option_map f (numbered n xs)
-numbered_map f zero xs = refl
-numbered_map f (suc i) xs = got_map f xs i
 
 -- ---- sizes
 
@@ -97,13 +88,6 @@ section_of b r valid low =
     let same : 0 + r ≡ r = omega arith in
     subst (λ (n : ℕ). HasSection b.header n (slice_get b.sections r)) same (section_at b.header 0 b.sections r valid.sections low)
 
--- the formula of a numbered subproblem, by its log
-formula_by : (h : Header) (part r : ℕ) (s : Section) → IsSection h r s →
-    formula_at h part r ≡ option_map (formula_of h r) (option_map subproblem_of (numbered part s.subproblems))
-formula_by h part r s is =
-    ap (λ (ps : List Subproblem). option_map (formula_of h r) (numbered part ps)) (sym is.subproblems_are)
-    ∙ ap (λ (o : Option Subproblem). option_map (formula_of h r) o) (numbered_map subproblem_of part s.subproblems)
-
 -- ---- the part of a size
 
 -- a certificate has a part with this formula, and the lines of its log are these
@@ -113,13 +97,29 @@ pub record HasBoth (b : Certificate) (size : Option ℕ) (part r : ℕ) (f : For
   pub formula : found.formula ≡ f
   pub log : text_of (log_lines r (part - 1) (certificate_lines b)) ≡ lrat_text found.log
 
-log_by : (b : Certificate) (r : ℕ) (s : Section) (part : ℕ) (q : SubproblemLog) → IsValid b → r ≤ most_steps → slice_get b.sections r ≡ Some s →
-    numbered part s.subproblems ≡ Some q
-    → text_of (log_lines r (part - 1) (certificate_lines b)) ≡ lrat_text q.log
-log_by b r s zero q valid small got is = absurd cc
-log_by b r s (suc j) q valid small got is =
+got_high : {X : Type 0} (xs : List X) (i : ℕ) → slice_get xs i ≡ None → length xs ≤ i
+got_high [] i none = omega arith
+got_high (x ∷ xs) zero none = absurd cc
+got_high (x ∷ xs) (suc i) none = let high = got_high xs i none in omega (arith, high)
+
+got_low : {X : Type 0} (xs : List X) (i : ℕ) (x : X) → slice_get xs i ≡ Some x → i < length xs
+got_low [] i x is = absurd cc
+got_low (y ∷ ys) zero x is = omega arith
+got_low (y ∷ ys) (suc i) x is = let low = got_low ys i x is in omega (arith, low)
+
+log_by : (b : Certificate) (r : ℕ) (s : Section) (j : ℕ) (o : Option SubproblemLog) → IsValid b → r ≤ most_steps → slice_get b.sections r ≡ Some s →
+    slice_get s.subproblems j ≡ o → text_of (log_lines r j (certificate_lines b)) ≡ lrat_text (log_or_none o)
+log_by b r s j None valid small got is = log_missing b r s j valid small got (got_high s.subproblems j is)
+log_by b r s j (Some q) valid small got is = log_found b r s j q valid small got is (got_low s.subproblems j q is)
+
+log_of_part : (b : Certificate) (r : ℕ) (s : Section) (part : ℕ) (x : Subproblem) → IsValid b → r ≤ most_steps → slice_get b.sections r ≡ Some s →
+    numbered part (subproblems_of b.header s.size) ≡ Some x
+    → text_of (log_lines r (part - 1) (certificate_lines b)) ≡ lrat_text (log_in part s)
+log_of_part b r s zero x valid small got is = absurd cc
+log_of_part b r s (suc j) x valid small got is =
     let same : suc j - 1 ≡ j = omega arith in
-    ap (λ (n : ℕ). text_of (log_lines r n (certificate_lines b))) same ∙ log_found b r s j q valid small got is
+    ap (λ (n : ℕ). text_of (log_lines r n (certificate_lines b))) same
+    ∙ log_by b r s j (slice_get s.subproblems j) valid small got refl
 
 part_here : (b : Certificate) (size : Option ℕ) (part r : ℕ) (s : Section) → size_asked (length b.sections) size ≡ r → slice_get b.sections r ≡ Some s →
     part_of b size part ≡ part_in b.header part s
@@ -127,20 +127,25 @@ part_here b size part r s same got =
     ap (λ (n : ℕ). option_and_then (part_in b.header part) (slice_get b.sections n)) same
     ∙ ap (option_and_then (part_in b.header part)) got
 
-both_by : (b : Certificate) (size : Option ℕ) (part r : ℕ) (s : Section) (f : Formula) (o : Option SubproblemLog) → IsValid b → r ≤ most_steps →
+both_by : (b : Certificate) (size : Option ℕ) (part r : ℕ) (s : Section) (f : Formula) (o : Option Subproblem) → IsValid b → r ≤ most_steps →
     slice_get b.sections r ≡ Some s
-    → IsSection b.header r s → part_of b size part ≡ part_in b.header part s → numbered part s.subproblems ≡ o
-    → option_map (formula_of b.header r) (option_map subproblem_of o) ≡ Some f → HasBoth b size part r f
+    → IsSection b.header r s → part_of b size part ≡ part_in b.header part s → numbered part (subproblems_of b.header s.size) ≡ o
+    → option_map (formula_of b.header r) o ≡ Some f → HasBoth b size part r f
 both_by b size part r s f None valid small got is here numb e = absurd cc
-both_by b size part r s f (Some q) valid small got is here numb e = record {
-  found = part_by b.header s.size q;
-  is_part = here ∙ ap (option_map (part_by b.header s.size)) numb;
-  formula = ap (λ (n : ℕ). formula_of b.header n q.subproblem) is.size_is ∙ one (formula_of b.header r q.subproblem) f e;
-  log = log_by b r s part q valid small got numb;
+both_by b size part r s f (Some x) valid small got is here numb e = record {
+  found = part_by b.header part s x;
+  is_part = here ∙ ap (option_map (part_by b.header part s)) numb;
+  formula = ap (λ (n : ℕ). formula_of b.header n x) is.size_is ∙ one (formula_of b.header r x) f e;
+  log = log_of_part b r s part x valid small got numb;
 }
   where
-    one : (x y : Formula) → Some x ≡ Some y → x ≡ y
-    one x y same = cc
+    one : (y z : Formula) → Some y ≡ Some z → y ≡ z
+    one y z same = cc
+
+-- the formula of a size, by the size of its section
+by_section : (h : Header) (part r : ℕ) (s : Section) → IsSection h r s →
+    option_map (formula_of h r) (numbered part (subproblems_of h s.size)) ≡ formula_at h part r
+by_section h part r s is = ap (λ (n : ℕ). option_map (formula_of h r) (numbered part (subproblems_of h n))) is.size_is
 
 found_part : (b : Certificate) (size : Option ℕ) (part r : ℕ) (f : Formula) → IsValid b → size_in (length b.sections) size ≡ Some r →
     formula_at b.header part r ≡ Some f → HasBoth b size part r f
@@ -148,13 +153,13 @@ found_part b size part r f valid at is =
     let sized = size_found (length b.sections) size r at in
     let has = section_of b r valid sized.1 in
     let few = few_sections b valid in
-    both_by b size part r has.section f (numbered part has.section.subproblems) valid (omega (arith, few, sized.1)) has.got has.is
-    (part_here b size part r has.section sized.0 has.got) refl (sym (formula_by b.header part r has.section has.is) ∙ is)
+    both_by b size part r has.section f (numbered part (subproblems_of b.header has.section.size)) valid (omega (arith, few, sized.1)) has.got has.is
+    (part_here b size part r has.section sized.0 has.got) refl (by_section b.header part r has.section has.is ∙ is)
 
-none_by : (h : Header) (part r : ℕ) (s : Section) (o : Option SubproblemLog) → numbered part s.subproblems ≡ o
-    → option_map (formula_of h r) (option_map subproblem_of o) ≡ None → part_in h part s ≡ None
-none_by h part r s None numb e = ap (option_map (part_by h s.size)) numb
-none_by h part r s (Some q) numb e = absurd cc
+none_by : (h : Header) (part r : ℕ) (s : Section) (o : Option Subproblem) → numbered part (subproblems_of h s.size) ≡ o
+    → option_map (formula_of h r) o ≡ None → part_in h part s ≡ None
+none_by h part r s None numb e = ap (option_map (part_by h part s)) numb
+none_by h part r s (Some x) numb e = absurd cc
 
 none_found : (b : Certificate) (size : Option ℕ) (part r : ℕ) → IsValid b → size_in (length b.sections) size ≡ Some r → formula_at b.header part r ≡ None →
     part_of b size part ≡ None
@@ -162,7 +167,7 @@ none_found b size part r valid at is =
     let sized = size_found (length b.sections) size r at in
     let has = section_of b r valid sized.1 in
     part_here b size part r has.section sized.0 has.got
-    ∙ none_by b.header part r has.section (numbered part has.section.subproblems) refl (sym (formula_by b.header part r has.section has.is) ∙ is)
+    ∙ none_by b.header part r has.section (numbered part (subproblems_of b.header has.section.size)) refl (by_section b.header part r has.section has.is ∙ is)
 
 none_sized : (b : Certificate) (size : Option ℕ) (part : ℕ) → size_in (length b.sections) size ≡ None → part_of b size part ≡ None
 none_sized b size part at = ap (option_and_then (part_in b.header part)) (got_none b.sections (size_asked (length b.sections) size) (size_none (length b.sections) size at))

@@ -1,10 +1,11 @@
 -- The parts of a certificate: which sections it has, by its header and its chain, and which formulas and logs.
-use Rattle.std.specs.Prelude.{ℕ, zero, suc, ◌+◌, ◌-◌, nat_lt, if◌then◌else◌, List, length, Option, Some, None, slice_get}
+use Rattle.std.specs.Prelude.{ℕ, zero, suc, ◌+◌, ◌-◌, nat_lt, if◌then◌else◌, List, [], length, Option, Some, None, slice_get}
 use Rattle.std.specs.Prelude.{option_and_then}
 use Rattle.std.specs.Option.{option_map}
 use Rattle.chain_theory.specs.Chain.{Chain}
 use Rattle.sat_theory.specs.Formula.{Formula}
 use Rattle.sat_theory.specs.Line.{Line}
+use Rattle.enc_theory.specs.declared.subproblem.Subproblem.{Subproblem}
 use Rattle.cert_theory.specs.declared.data.Header.{Header}
 use Rattle.cert_theory.specs.Certificate.{Certificate, Section, SubproblemLog, formula_of, subproblems_of}
 
@@ -28,11 +29,19 @@ pub record Part : Type 0 where
   pub formula : Formula
   pub log : List Line
 
-abbrev pub part_by : Header → ℕ → SubproblemLog → Part
-part_by h size p = record { formula = formula_of h size p.subproblem; log = p.log }
+abbrev pub log_or_none : Option SubproblemLog → List Line
+log_or_none None = []
+log_or_none (Some p) = p.log
+
+-- the log of a subproblem: none where the section ends before it, which then says nothing of its formula
+abbrev pub log_in : ℕ → Section → List Line
+log_in part s = log_or_none (numbered part s.subproblems)
+
+abbrev pub part_by : Header → ℕ → Section → Subproblem → Part
+part_by h part s subproblem = record { formula = formula_of h s.size subproblem; log = log_in part s }
 
 abbrev pub part_in : Header → ℕ → Section → Option Part
-part_in h part s = option_map (part_by h s.size) (numbered part s.subproblems)
+part_in h part s = option_map (part_by h part s) (numbered part (subproblems_of h s.size))
 
 -- the part of a size
 abbrev pub part_of : Certificate → Option ℕ → ℕ → Option Part

@@ -1,7 +1,8 @@
 //! The lines of a log within the text of a certificate.
-ghost use Rattle.std.specs.Prelude.{◌≡◌, ◌++◌, ◌-◌, ◌∷◌, [], OnOk, IfOk};
+ghost use Rattle.std.specs.Prelude.{◌≡◌, ◌++◌, ◌-◌, ◌≤◌, ◌∷◌, [], OnOk, IfOk};
 ghost use Rattle.text_core.specs.Lines.{lines_of};
 ghost use Rattle.cert_theory.specs.Spelling.{size_line, text_of, done_text};
+ghost use Rattle.chain_theory.specs.Limits.{most_steps};
 ghost use Rattle.cmd_formula.specs.LogLines as spec;
 
 use std::alloc::{AllocError, Global};
@@ -90,6 +91,28 @@ fn size_text(alloc: Global, size: u32) -> Result<Vec<u8>, AllocError>
     Ok(text)
 }
 
+/// Whether more than so many lines `done` come before the first line that is `word`.
+#[tactic(auto, unfolding(crate::specs::LogLines::has_log))]
+fn has_log(bytes: &[u8], word: &[u8], others: u32) -> bool
+    ensures { result ≡ spec.has_log word.now others (lines_of bytes.now) }
+{
+    let mut left = bytes;
+    let mut count = others;
+    while let Some((text, ended, rest)) = next_line(left) {
+        if ended && text == word {
+            return false;
+        }
+        if ended && text == b"done".as_slice() {
+            if count == 0 {
+                return true;
+            }
+            count -= 1;
+        }
+        left = rest;
+    }
+    false
+}
+
 /// The text of the log of a part, where the certificate has it; parts are numbered from 1 on.
 pub(crate) fn log_text(
     alloc: Global,
@@ -97,12 +120,16 @@ pub(crate) fn log_text(
     size: u32,
     part: u32,
 ) -> Result<Vec<u8>, AllocError>
+    requires { size ≤ most_steps }
     ensures { IfOk result (λ text. text.items ≡ text_of (spec.log_lines size (part - 1) (lines_of bytes.now))) }
 {
     let word = size_text(alloc, size)?;
+    let next = size_text(alloc, size + 1)?;
     let section = after_line(bytes, &word);
-    let log = log_from(after_logs(section, part.saturating_sub(1)));
+    let others = part.saturating_sub(1);
     let mut text = Vec::new(alloc);
-    push_log(&mut text, log)?;
+    if has_log(section, &next, others) {
+        push_log(&mut text, log_from(after_logs(section, others)))?;
+    }
     Ok(text)
 }

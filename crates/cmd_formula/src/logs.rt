@@ -1,11 +1,12 @@
 //! The log of a part as plain LRAT. In a certificate the log of a formula with the empty clause has no lines; other
 //! checkers need one, which names that clause.
-ghost use Rattle.std.specs.Prelude.{◌≡◌, ◌-◌, ◌<◌, length, IfOk};
+ghost use Rattle.std.specs.Prelude.{◌≡◌, ◌-◌, ◌<◌, ◌≤◌, length, IfOk};
 ghost use Rattle.text_core.specs.Lines.{lines_of};
 ghost use Rattle.cert_theory.specs.Spelling.{text_of};
 ghost use Rattle.cmd_formula.specs.Dimacs.{empty_from, naming_by, lrat_text};
 ghost use Rattle.cmd_formula.specs.LogLines.{log_lines};
 ghost use Rattle.cmd_formula.specs.PlainLogs.{or_naming};
+ghost use Rattle.chain_theory.specs.Limits.{most_steps};
 
 use crate::lines::log_text;
 use cnf_core::{Clause, Cnf};
@@ -59,6 +60,7 @@ pub(crate) fn plain_text(
     part: u32,
     cnf: &Cnf,
 ) -> Result<Vec<u8>, AllocError>
+    requires { size ≤ most_steps }
     ensures { IfOk result (λ text. text.items ≡
         or_naming cnf.now (text_of (log_lines size (part - 1) (lines_of bytes.now)))) }
 {

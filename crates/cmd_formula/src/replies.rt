@@ -1,6 +1,7 @@
 //! The two commands: the formula of a part, and its log.
 ghost use Rattle.std.specs.Prelude.{◌≡◌, ℕ, ◌≤◌, List, None, Err, IfOk, IfErr, length};
 ghost use Rattle.frame_core.specs.declared.status.Status.TheVariants.{Done};
+ghost use Rattle.chain_theory.specs.Limits.{most_steps};
 ghost use Rattle.depth_theory.specs.Verdicts.{most_of_certificate};
 ghost use Rattle.frame_core.specs.Views.{Judges, reply_value, refusal_value};
 ghost use Rattle.cmd_formula.specs.Claimed.{IsFound};
@@ -46,6 +47,7 @@ fn no_such_part() -> Refusal
 fn part_in(alloc: Global, bytes: &[u8], asked: PartAsked) -> Result<FoundPart, Stop>
     requires { length bytes.now ≤ most_of_certificate }
     ensures found { IfOk result (λ x. IsFound asked.size asked.part bytes.now x.size x.cnf) }
+    ensures few { IfOk result (λ x. x.size ≤ most_steps) }
     ensures stop { IfErr result (λ stop. (text : Part → List ℕ) →
         Judges (task_of text asked.size asked.part) bytes.now (Err stop)) }
 {

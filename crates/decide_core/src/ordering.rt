@@ -1,8 +1,8 @@
 //! The order of the methods: the lower bound first, then for at most four steps their enumeration, else the cache
 //! and the searches, with the inputs in normal order (the P-class of the tables). So windows that differ only by
 //! an input permutation share their results, and chains are permuted back by the inverse order. The first search
-//! has few conflicts, and for seven steps or more the formulas of `strong`; what it leaves open is searched for the
-//! original tables, by the header's method, with a certificate and the whole budget.
+//! has few conflicts; what it leaves open is searched for the original tables, with a certificate and the whole
+//! budget.
 ghost use Rattle.std.specs.Prelude.{◌≡◌, ℕ, ◌≤◌, IfOk};
 ghost use Rattle.tt_core.specs.Words.{specification};
 ghost use Rattle.cert_theory.specs.declared.data.Header.{Header as HeaderOf};
@@ -19,7 +19,6 @@ use bound_core::lower_bound;
 use cert_theory::Header;
 use chain_core::Chain;
 use sat_solve::Solver;
-use settings::Method;
 use spec_cache::{SpecCache, SpecKey, inverse, normal_order, permuted_chain, permuted_spec};
 use std::alloc::{AllocError, Global};
 
@@ -29,18 +28,6 @@ const FIRST_CONFLICTS: u32 = 10_000;
 
 /// The most steps that are enumerated: for more, a search is faster.
 const FEW_STEPS: u32 = 4;
-
-/// The most steps that the first search refutes by the header's method. For more, the further clauses of `strong` pay.
-const STEPS_BY_METHOD: u32 = 6;
-
-/// The method of the first search: what a search without a certificate proves is the same by all methods.
-fn first_method(header: &Header) -> Method {
-    if header.max > STEPS_BY_METHOD {
-        Method::Strong
-    } else {
-        header.method
-    }
-}
 
 /// The budget of the first search.
 fn first_conflicts(conflicts: u32) -> u32
@@ -72,7 +59,7 @@ pub(crate) fn permuted_header(
     Ok(Header {
         spec,
         basis: header.basis,
-        method: first_method(header),
+        method: header.method,
         conflicts: first_conflicts(header.conflicts),
         max: header.max,
     })

@@ -1,8 +1,11 @@
--- What words ask of `improve`, and what its run over a file that is named keeps.
-use Rattle.std.specs.Prelude.{◌≡◌, ℕ, List, Option, Some, None, Ok, Err}
+-- What words ask for where a named file makes a difference, and what a run over such a file keeps.
+use Rattle.std.specs.Prelude.{◌≡◌, ℕ, Bool, true, false, if◌then◌else◌, List, Option, Some, None, Ok, Err}
 use Rattle.std.proofs.Common.{sym, ◌∙◌, ap, subst}
 use Rattle.std.proofs.lemmas.Grind.{common_steps}
 use Rattle.settings.specs.declared.improve.ImproveSettings.{ImproveSettings}
+use Rattle.settings.specs.declared.synth.SynthSettings.{SynthSettings}
+use Rattle.settings.specs.declared.methods.MethodChoice.TheVariants.{Auto}
+use Rattle.settings.specs.Synth.{IsInRange}
 use Rattle.command_line.specs.declared.command.Command.{Command}
 use Rattle.command_line.specs.declared.command.Command.TheVariants.{Agree, Recheck, RecheckDepth, Synth, LeastDepth, Improve, Equiv, Gen}
 use Rattle.command_line.specs.declared.command.WordsError.{WordsError}
@@ -11,9 +14,11 @@ use Rattle.frame_core.specs.Run.{Run}
 use Rattle.frame_core.specs.Promise.{CommandPromise}
 use Rattle.cmd_improve.specs.ImproveReport.{FormatAsked}
 use Rattle.cmd_improve.specs.NamedReport.{named_task}
+use Rattle.cmd_synth.specs.SynthReport.{synth_task}
 use Rattle.chain_app.specs.KeepsPromises.{KeepsPromises}
 use Rattle.front_app.specs.declared.named.Asked.{Asked}
-use Rattle.front_app.specs.Named.{KeepsNamed, improve_in, IsImproveOf}
+use Rattle.front_app.specs.declared.named.Asked.TheVariants as asks
+use Rattle.front_app.specs.Named.{KeepsNamed, AsksForNone, asked_in, IsAskedBy, names_method, with_method}
 
 -- words ask for one command
 some_same : (x y : Command) → Some x ≡ Some y → x ≡ y
@@ -33,31 +38,58 @@ none_asked o e c is other =
 
 -- ---- the words
 
-in_command : (words : List (List ℕ)) (c : Command) → AsksFor words c → IsAskable c → IsImproveOf words (improve_in c)
-in_command words Agree asks can = λ f s other. let same = one words Agree (Improve f s) asks other in absurd cc
-in_command words Recheck asks can = λ f s other. let same = one words Recheck (Improve f s) asks other in absurd cc
-in_command words RecheckDepth asks can = λ f s other. let same = one words RecheckDepth (Improve f s) asks other in absurd cc
-in_command words (Synth a) asks can = λ f s other. let same = one words (Synth a) (Improve f s) asks other in absurd cc
-in_command words (LeastDepth a) asks can = λ f s other. let same = one words (LeastDepth a) (Improve f s) asks other in absurd cc
-in_command words (Improve g a) asks can = (asks, can)
-in_command words (Equiv n) asks can = λ f s other. let same = one words (Equiv n) (Improve f s) asks other in absurd cc
-in_command words (Gen n d) asks can = λ f s other. let same = one words (Gen n d) (Improve f s) asks other in absurd cc
+none_asked_by : (words : List (List ℕ)) (c : Command) → AsksFor words c
+    → ((f : FormatAsked) (s : ImproveSettings) → c ≡ Improve f s → ⊥) → ((s : SynthSettings) → c ≡ Synth s → ⊥) → AsksForNone words
+none_asked_by words c asks_it no_improve no_synth = record {
+  no_improve = λ f s other. no_improve f s (one words c (Improve f s) asks_it other);
+  no_synth = λ s other. no_synth s (one words c (Synth s) asks_it other);
+}
 
-pub improve_read : (words : List (List ℕ)) (c : Command) (o : Option Asked) → Ok c ≡ read words → IsAskable c →
-    o ≡ improve_in c → IsImproveOf words o
-improve_read words c o is can same =
-    subst (IsImproveOf words) (sym same) (in_command words c (usage_none (command_of words) c is) can)
+in_command : (words : List (List ℕ)) (c : Command) → AsksFor words c → IsAskable c → IsAskedBy words (asked_in c)
+in_command words Agree asks_it can = none_asked_by words Agree asks_it (λ f s same. cc) (λ s same. cc)
+in_command words Recheck asks_it can = none_asked_by words Recheck asks_it (λ f s same. cc) (λ s same. cc)
+in_command words RecheckDepth asks_it can = none_asked_by words RecheckDepth asks_it (λ f s same. cc) (λ s same. cc)
+in_command words (Synth a) asks_it can = (asks_it, can)
+in_command words (LeastDepth a) asks_it can = none_asked_by words (LeastDepth a) asks_it (λ f s same. cc) (λ s same. cc)
+in_command words (Improve g a) asks_it can = (asks_it, can)
+in_command words (Equiv n) asks_it can = none_asked_by words (Equiv n) asks_it (λ f s same. cc) (λ s same. cc)
+in_command words (Gen n d) asks_it can = none_asked_by words (Gen n d) asks_it (λ f s same. cc) (λ s same. cc)
 
-pub none_read : (words : List (List ℕ)) (e : WordsError) → Err e ≡ read words → IsImproveOf words None
-none_read words e is = λ f s asks. none_asked (command_of words) e (Improve f s) is asks
+pub asked_read : (words : List (List ℕ)) (c : Command) (o : Option Asked) → Ok c ≡ read words → IsAskable c →
+    o ≡ asked_in c → IsAskedBy words o
+asked_read words c o is can same =
+    subst (IsAskedBy words) (sym same) (in_command words c (usage_none (command_of words) c is) can)
 
-pub ruleset asking = (common_steps, improve_read, none_read)
+pub none_read : (words : List (List ℕ)) (e : WordsError) → Err e ≡ read words → IsAskedBy words None
+none_read words e is = record {
+  no_improve = λ f s asks_it. none_asked (command_of words) e (Improve f s) is asks_it;
+  no_synth = λ s asks_it. none_asked (command_of words) e (Synth s) is asks_it;
+}
+
+pub ruleset asking = (common_steps, asked_read, none_read)
+
+-- the settings stay in their ranges
+range_by : (named : Bool) (settings : SynthSettings) → IsInRange settings → IsInRange (if named then settings else record settings { method = Auto })
+range_by true settings range = range
+range_by false settings range = record {
+  basis_from = range.basis_from;
+  max_to = range.max_to;
+  conflicts_from = range.conflicts_from;
+  conflicts_to = range.conflicts_to;
+  effort_to = range.effort_to;
+}
+
+pub range_with : (words : List (List ℕ)) (settings : SynthSettings) → IsInRange settings → IsInRange (with_method words settings)
+range_with words settings range = range_by (names_method words) settings range
+
+pub ruleset running = (common_steps, range_with)
 
 -- ---- the run
 
-pub passed : (r : Run) → IsImproveOf r.words None → KeepsPromises r → KeepsNamed r
+pub passed : (r : Run) → IsAskedBy r.words None → KeepsPromises r → KeepsNamed r
 passed r none kept = record {
-  improves = λ format settings asks. absurd (none format settings asks);
+  improves = λ format settings asks_it. absurd (none.no_improve format settings asks_it);
+  synthesises = λ settings asks_it. absurd (none.no_synth settings asks_it);
   others = λ other. kept;
 }
 
@@ -67,14 +99,29 @@ same_format f g s t e = cc
 same_settings : (f g : FormatAsked) (s t : ImproveSettings) → Improve f s ≡ Improve g t → s ≡ t
 same_settings f g s t e = cc
 
-pub improved : (r : Run) (asked : Asked) → IsImproveOf r.words (Some asked) →
-    CommandPromise (named_task asked.format asked.settings) r → KeepsNamed r
-improved r asked asks promise = record {
-  improves = λ format settings other.
-      let same = one r.words (Improve asked.format asked.settings) (Improve format settings) asks.0 other in
-      subst (λ (f : FormatAsked). CommandPromise (named_task f settings) r)
-      (same_format asked.format format asked.settings settings same)
-      (subst (λ (s : ImproveSettings). CommandPromise (named_task asked.format s) r)
-      (same_settings asked.format format asked.settings settings same) promise);
-  others = λ none. absurd (none asked.format asked.settings asks.0);
+same_search : (s t : SynthSettings) → Synth s ≡ Synth t → s ≡ t
+same_search s t e = cc
+
+other_command : (f : FormatAsked) (s : ImproveSettings) (t : SynthSettings) → Improve f s ≡ Synth t → ⊥
+other_command f s t e = cc
+
+pub improved : (r : Run) (format : FormatAsked) (settings : ImproveSettings) → AsksFor r.words (Improve format settings) →
+    CommandPromise (named_task format settings) r → KeepsNamed r
+improved r format settings asks_it promise = record {
+  improves = λ f s other.
+      let same = one r.words (Improve format settings) (Improve f s) asks_it other in
+      subst (λ (g : FormatAsked). CommandPromise (named_task g s) r) (same_format format f settings s same)
+      (subst (λ (t : ImproveSettings). CommandPromise (named_task format t) r) (same_settings format f settings s same) promise);
+  synthesises = λ s other. absurd (other_command format settings s (one r.words (Improve format settings) (Synth s) asks_it other));
+  others = λ none. absurd (none.no_improve format settings asks_it);
+}
+
+pub synthesised : (r : Run) (settings : SynthSettings) → AsksFor r.words (Synth settings) →
+    CommandPromise (synth_task (with_method r.words settings)) r → KeepsNamed r
+synthesised r settings asks_it promise = record {
+  improves = λ f s other. absurd (other_command f s settings (one r.words (Improve f s) (Synth settings) other asks_it));
+  synthesises = λ s other.
+      let same = same_search settings s (one r.words (Synth settings) (Synth s) asks_it other) in
+      subst (λ (t : SynthSettings). CommandPromise (synth_task (with_method r.words t)) r) same promise;
+  others = λ none. absurd (none.no_synth settings asks_it);
 }

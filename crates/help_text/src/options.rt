@@ -115,7 +115,7 @@ const CHOICE: Row = Row {
     value: b"METHOD",
     allowed: CHOICES,
     default: Default::Word(b"ssv"),
-    says: b"how a size becomes a formula; what a verdict means is the same; auto: by the tables",
+    says: b"how a size becomes a formula; what a verdict means is the same; auto: by the tables, as where FILE is named",
 };
 
 const MAX: Row = Row {

@@ -122,6 +122,7 @@ pub(crate) fn search_formulas<S: Solver, T: Tell>(
 
 /// Searches the subproblems of `size` by any encoding that writes the formulas of the header's method, up to the first
 /// that is left open where the method says so.
+#[tactic(auto, using(crate::proofs::Tried::trying))]
 fn search_subproblems<S: Solver, E: Encoding, T: Tell>(
     alloc: Global,
     encoding: &E,
