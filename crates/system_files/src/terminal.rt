@@ -15,13 +15,13 @@ const WRITTEN_STEP: u64 = 262_144;
 const GATES_STEP: u64 = 1_000;
 
 /// The windows of so many roots are attempted from one line to the next.
-const ROOTS_STEP: u64 = 500;
+const ROOTS_STEP: u64 = 1_000;
 
 /// So many lines are added to logs from one line to the next.
 const LINES_STEP: u64 = 2_000;
 
 /// Comparisons of gates may take so many conflicts from one line to the next.
-const CONFLICTS_STEP: u64 = 50_000;
+const CONFLICTS_STEP: u64 = 200_000;
 
 /// The line of progress.
 #[derive(Drop)]
