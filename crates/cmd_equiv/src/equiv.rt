@@ -29,7 +29,7 @@ fn standing_status(outcome: EquivOutcome) -> Status
 }
 
 /// The reply of a comparison.
-pub(crate) fn reply_of(compared: Compared) -> Reply
+pub fn reply_of(compared: Compared) -> Reply
     ensures { reply_value result ≡ equiv_reply (record { text = compared.text.items; outcome = compared.outcome }) }
 {
     Reply {
@@ -66,7 +66,7 @@ fn plainly(status: Status, name: &'static [u8]) -> Refusal
 
 /// The refusal if two netlists can't be compared.
 #[tactic(auto, unfolding(crate::specs::EquivReport::named_pair, frame_core::specs::Reported::memory))]
-pub(crate) fn refusal_of(error: CompareError) -> Refusal
+pub fn refusal_of(error: CompareError) -> Refusal
     ensures { refusal_value result ≡ equiv_refusal error }
 {
     match error {

@@ -8,5 +8,5 @@
 mod equiv;
 mod with;
 
-pub use equiv::Equiv;
-pub use with::EquivWith;
+pub use equiv::{Equiv, refusal_of, reply_of};
+pub use with::{EquivWith, empty, reply_of_two};

@@ -17,7 +17,7 @@ use std::marker::PhantomData;
 
 /// The refusal of a text that says nothing.
 #[tactic(auto, unfolding(frame_core::specs::Views::shown, crate::specs::WithReport::empty_refusal))]
-fn empty(netlist: &'static [u8]) -> Refusal
+pub fn empty(netlist: &'static [u8]) -> Refusal
     ensures { refusal_value result ≡ empty_refusal netlist.now }
 {
     Refusal {
@@ -47,7 +47,7 @@ fn report_of(alloc: Global, no_sink: bool) -> Result<Option<Report>, AllocError>
 }
 
 /// The reply of a comparison of two texts.
-fn reply_of_two(alloc: Global, two: ComparedTwo) -> Result<Reply, AllocError>
+pub fn reply_of_two(alloc: Global, two: ComparedTwo) -> Result<Reply, AllocError>
     ensures { IfOk result (λ reply. reply_value reply ≡ with_reply (record {
       compared = record { text = two.compared.text.items; outcome = two.compared.outcome };
       no_sink = two.no_sink;

@@ -25,6 +25,7 @@ mod replies;
 mod words;
 
 pub use dimacs::push_dimacs;
+pub use logs::naming;
 pub use parts::PartAsked;
 pub use replies::{WriteFormula, WriteLog};
 pub use words::{FormulaWords, read_words};

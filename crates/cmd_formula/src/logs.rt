@@ -32,7 +32,7 @@ fn first_empty(clauses: &[Clause]) -> Option<u32>
 }
 
 /// The line that names the empty clause of a formula; nothing if it has none.
-fn naming(alloc: Global, cnf: &Cnf) -> Result<Vec<u8>, AllocError>
+pub fn naming(alloc: Global, cnf: &Cnf) -> Result<Vec<u8>, AllocError>
     ensures { IfOk result (λ text. text.items ≡
         lrat_text (naming_by (length cnf.now.clauses) (empty_from 1 cnf.now.clauses))) }
 {

@@ -22,7 +22,7 @@ use std::marker::PhantomData;
 
 /// A fault of a netlist as a refusal.
 #[tactic(auto, unfolding(frame_core::specs::Views::shown))]
-fn refusal_of(error: NetError) -> Refusal
+pub fn refusal_of(error: NetError) -> Refusal
     ensures { refusal_value result ≡ improve_refusal error }
 {
     let status = net_status(&error);

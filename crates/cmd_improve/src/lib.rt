@@ -8,5 +8,5 @@
 mod improve;
 mod named;
 
-pub use improve::{Improve, reply_of};
-pub use named::ImproveNamed;
+pub use improve::{Improve, refusal_of, reply_of};
+pub use named::{ImproveNamed, empty};

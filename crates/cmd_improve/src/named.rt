@@ -18,7 +18,7 @@ use std::marker::PhantomData;
 
 /// The refusal of a text without a directive, by this name.
 #[tactic(auto, unfolding(crate::specs::NamedReport::empty_refusal))]
-fn empty(name: &'static [u8]) -> Refusal
+pub fn empty(name: &'static [u8]) -> Refusal
     ensures { refusal_value result ≡ empty_refusal name.now }
 {
     Refusal {

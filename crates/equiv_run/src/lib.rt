@@ -31,6 +31,6 @@ pub use answer::{CompareError, Compared, ComparedTwo, EquivOutcome};
 pub use bare::is_bare;
 pub use blif_core::NetError;
 pub use laws::pairs_have_an_answer_or_a_fault;
-pub use reading::compare_texts;
+pub use reading::{compare_circuits, compare_texts};
 pub use splitting::split;
 pub use two::compare_two;

@@ -51,7 +51,7 @@ pub(crate) fn read_second(alloc: Global, bytes: &[u8]) -> Result<Circuit, Compar
 using(crate::specs::CircuitAnswers::answer_equal, crate::specs::CircuitAnswers::answer_differ, // for the prover
 crate::specs::CircuitAnswers::answer_undecided), unfolding(crate::specs::Texts::equal_text, // for the prover
 crate::specs::Texts::undecided_text))]
-pub(crate) fn compare_circuits<S: Solver, T: Tell>(
+pub fn compare_circuits<S: Solver, T: Tell>(
     alloc: Global,
     first: &Circuit,
     second: &Circuit,

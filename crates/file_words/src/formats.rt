@@ -12,7 +12,7 @@ use std::alloc::{AllocError, Global};
 
 /// Whether a word ends with a text that isn't empty.
 #[tactic(auto, unfolding(crate::specs::Formats::ends_with))]
-fn ends_with(word: &[u8], end: &[u8]) -> bool
+pub fn ends_with(word: &[u8], end: &[u8]) -> bool
     ensures { result ≡ spec.ends_with word.now end.now }
 {
     let mut left = word;

@@ -18,5 +18,6 @@ mod formats;
 mod line;
 mod sorting;
 
+pub use formats::ends_with;
 pub use line::{FileLine, Next};
 pub use sorting::{is_same, is_standard, read_line};

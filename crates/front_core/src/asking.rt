@@ -75,7 +75,7 @@ fn is_few(command: &Command, line: &FileLine) -> bool
 }
 
 /// Whether a line names no more files than the command reads and writes.
-pub(crate) fn fits(command: &Command, line: &FileLine) -> bool
+pub fn fits(command: &Command, line: &FileLine) -> bool
     ensures { result ≡ spec.fits command.now (line_value line.now) }
 {
     if !is_few(command, line) {
@@ -106,7 +106,7 @@ pub fn input_of(line: &FileLine) -> Option<&str>
 }
 
 /// The name of the second file that is read; None for standard input, or if there is none.
-pub(crate) fn second_of(line: &FileLine) -> Option<&str>
+pub fn second_of(line: &FileLine) -> Option<&str>
     ensures { text_in result ≡ spec.name_in (spec.second_in (line_value line.now).operands) }
 {
     let Some((_, files)) = line.operands.split_first() else {
@@ -134,7 +134,7 @@ fn budget_of_two(budget: u32, operands: &[String]) -> Option<u32>
 }
 
 /// The budget of a comparison of two files; None for what reads one input or none.
-pub(crate) fn pair_budget(command: &Command, line: &FileLine) -> Option<u32>
+pub fn pair_budget(command: &Command, line: &FileLine) -> Option<u32>
     requires { IsAskable command.now }
     ensures exact { result ≡ spec.pair_budget command.now (line_value line.now).operands }
     ensures budget { IfSome result IsBudget }

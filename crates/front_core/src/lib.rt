@@ -24,6 +24,7 @@ mod pairing;
 mod program;
 mod serving;
 
-pub use asking::{input_of, is_apart, output_of};
+pub use asking::{fits, input_of, is_apart, output_of, pair_budget, second_of};
+pub use pairing::Pairing;
 pub use program::Program;
-pub use serving::{report_memory, report_usage, serve};
+pub use serving::{report_memory, report_usage, serve, serve_outputs};

@@ -187,11 +187,15 @@ fn pair_named<P: Program, W: Outside, S: Source, O: Sink, N: Sink>(
 /// The comparison of the texts of two inputs, which are never joined, as work: those of the files that are named, or
 /// that of the source.
 #[derive(Drop)]
-pub(crate) struct Pairing<'a, P> {
-    pub(crate) first: Option<&'a str>,
-    pub(crate) second: Option<&'a str>,
-    pub(crate) budget: u32,
-    pub(crate) program: &'a P,
+pub struct Pairing<'a, P> {
+    /// The file of the first text; None for the source.
+    pub first: Option<&'a str>,
+    /// The file of the second text; None for the source.
+    pub second: Option<&'a str>,
+    /// The budget of conflicts, 1 to 10,000,000.
+    pub budget: u32,
+    /// The program that compares.
+    pub program: &'a P,
 }
 
 impl<'a, P: Program> Work for Pairing<'a, P> {

@@ -41,9 +41,9 @@ pub fn report_memory<N: Sink>(note: &mut N) -> Status
     Status::Memory
 }
 
-/// Does work with the outputs that a line names.
+/// Does work with the outputs that a line names: those of `-o` and `--certificate`.
 #[tactic(auto, using(crate::proofs::Endings::outputs))]
-fn serve_outputs<K: Work, W: Outside, S: Source, O: Sink, N: Sink>(
+pub fn serve_outputs<K: Work, W: Outside, S: Source, O: Sink, N: Sink>(
     alloc: Global,
     work: &K,
     line: &FileLine,

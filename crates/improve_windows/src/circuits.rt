@@ -36,9 +36,9 @@ pub struct Improved {
 
 /// An improved circuit, and the document that BLIF writes for it.
 #[derive(Drop)]
-pub(crate) struct Written {
-    pub(crate) improved: Improved,
-    pub(crate) document: Document,
+pub struct Written {
+    pub improved: Improved,
+    pub document: Document,
 }
 
 /// A circuit with its improved net.
@@ -93,7 +93,7 @@ fn left_of<S: Solver, T: Tell>(
 /// `passes.rt`, and resynthesis until no window up to the cap has a shorter chain, or
 /// `settings.rounds` rounds have changed something.
 #[tactic(auto, using(crate::specs::ImprovingLaws::improving))]
-pub(crate) fn improve_written<S: Solver, T: Tell>(
+pub fn improve_written<S: Solver, T: Tell>(
     alloc: Global,
     circuit: Circuit,
     settings: ImproveSettings,

@@ -28,7 +28,8 @@ mod stages;
 mod texts;
 
 pub use blif_core::{Circuit, NetError};
+pub use circuits::{Improved, Written, improve_written};
 pub use improve_theory::{Undecided, WindowCandidate};
 pub use passes::{ImprovedNet, improve_net};
 pub use settings::ImproveSettings;
-pub use texts::{ImprovedText, improve_bench, improve_blif};
+pub use texts::{ImprovedText, all_reported, improve_bench, improve_blif};

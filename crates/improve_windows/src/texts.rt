@@ -36,7 +36,7 @@ pub struct ImprovedText {
 }
 
 /// The report of an improved circuit.
-fn all_reported(alloc: Global, improved: &Improved) -> Result<Vec<u8>, AllocError>
+pub fn all_reported(alloc: Global, improved: &Improved) -> Result<Vec<u8>, AllocError>
     requires proper { IsProper improved.now.circuit }
     requires undecided { All CanBeWritten improved.now.undecided.items }
     ensures { IfOk result (λ report. report.items ≡

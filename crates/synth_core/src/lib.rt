@@ -25,6 +25,6 @@ mod reading;
 pub use cert_theory::Verdict;
 pub use depth_theory::DepthVerdict;
 pub use least_depth::{CertifiedDepth, DepthFound, certify_depth};
-pub use pieces::{BegunSynthesis, Piece, begin, next_piece};
+pub use pieces::{BegunSynthesis, Piece, begin, method_of, next_piece};
 pub use reading::tables;
 pub use settings::SynthSettings;

@@ -38,7 +38,7 @@ pub enum Piece {
 }
 
 /// The method that the settings take for the tables.
-fn method_of(settings: &SynthSettings, spec: &Spec) -> Method
+pub fn method_of(settings: &SynthSettings, spec: &Spec) -> Method
     ensures { result ≡ (header_of spec.now settings.now).method }
 {
     method_for(settings.method, used_inputs(spec), spec.outputs())
