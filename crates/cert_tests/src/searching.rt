@@ -151,6 +151,22 @@ fn the_most_steps_and_the_budget_end_a_search(rt: HostRuntime) {
     }
 }
 
+/// Whether the last section of a search for the full adder has one log, where the budget is one clause.
+fn stops_at_open(alloc: Global) -> bool {
+    let Some(certificate) = searched(alloc, ADDER, ALL, Method::StrongFence, 3, 1) else {
+        return false;
+    };
+    match certificate.sections.last() {
+        Some(section) => section.is_open() && section.subproblems.len() == 1,
+        None => false,
+    }
+}
+
+#[test]
+fn a_size_ends_with_its_first_open_fence(rt: HostRuntime) {
+    assert!(rt; stops_at_open(rt.alloc()));
+}
+
 /// Whether a search has ended with a chain of one step.
 fn has_ended(advance: &Advance) -> bool {
     match advance {

@@ -221,6 +221,11 @@ const TAKEN: &[(&str, &[u8], &[u8])] = &[
         b"\nmethod ssv\nconflicts 7\nmax 3\n",
     ),
     (
+        "four inputs, two of which are used",
+        b"inputs 4\n0110011001100110\n",
+        b"\nmethod ssv\nconflicts 7\nmax 3\n",
+    ),
+    (
         "four inputs, one output",
         b"inputs 4\n0110100110010110\n",
         b"\nmethod strong-fence\nconflicts 7\nmax 3\n",

@@ -1,7 +1,7 @@
 -- In the text of a valid certificate, the lines that are found are those of the log: no line before the one that is
 -- looked for has its text.
 use Rattle.std.proofs.Common.{◌≡◌, ℕ, zero, suc, ◌+◌, ◌%◌, ◌^◌, ◌<◌, ◌≤◌, Bool, true, false, cond, List}
-use Rattle.std.proofs.Common.{[], ◌∷◌, ◌++◌, length, map, Option, Some, None, refl, sym, ap, ◌∙◌, subst, arith, append_assoc, append-nil}
+use Rattle.std.proofs.Common.{[], ◌∷◌, ◌++◌, length, map, Option, Some, refl, sym, ap, ◌∙◌, subst, arith, append_assoc, append-nil}
 use Rattle.std.specs.Prelude.{codes, decimal, is_some, slice_get}
 use Rattle.std.specs.List.{flat_map, range_with_len, AllByRecursion}
 use Rattle.std.proofs.lemmas.List.Elements.{recursion_from_All}
@@ -16,9 +16,7 @@ use Rattle.text_core.specs.ReadBack.{word_back, number_back}
 use Rattle.chain_theory.specs.declared.data.Cell.{Cell}
 use Rattle.chain_theory.specs.declared.data.Cell.TheVariants.{Zero, One, Free}
 use Rattle.chain_theory.specs.Limits.{most_steps}
-use Rattle.chain_theory.specs.Chain.{Chain, Step}
-use Rattle.chain_theory.specs.declared.data.Out.{Out}
-use Rattle.chain_core.specs.Spelling.{line, step_text, step_lines, out_text, out_line, count_text}
+use Rattle.chain_core.specs.Spelling.{line}
 use Rattle.sat_theory.specs.Line as theory
 use Rattle.sat_theory.specs.Line.{IsLine}
 use Rattle.sat_theory.specs.State.{State, start, next}
@@ -29,19 +27,17 @@ use Rattle.tt_core.specs.Spelling.{character}
 use Rattle.enc_theory.specs.declared.subproblem.Subproblem.{Subproblem}
 use Rattle.enc_theory.specs.declared.subproblem.Subproblem.TheVariants.{Whole, Levels}
 use Rattle.cert_theory.specs.declared.data.Header.{Header}
-use Rattle.cert_theory.specs.declared.data.Verdict.{Verdict}
-use Rattle.cert_theory.specs.declared.data.Verdict.TheVariants as verdicts
 use Rattle.cert_theory.specs.declared.data.LogEnd.{LogEnd}
 use Rattle.cert_theory.specs.declared.data.LogEnd.TheVariants as ends
-use Rattle.cert_theory.specs.Certificate.{SubproblemLog, Section, Certificate, IsSubproblemLog, IsSection, AreSections, IsValid, formula_of}
+use Rattle.cert_theory.specs.Certificate.{SubproblemLog, Section, IsSubproblemLog, IsSection, AreSections, formula_of}
 use Rattle.cert_theory.specs.Spelling.{table_text, table_line, basis_line, method_line, conflicts_line, max_line, header_lines, size_line}
 use Rattle.cert_theory.specs.Spelling.{fence_text, name_lines, ended_text, done_text, log_line}
-use Rattle.cert_theory.specs.Spelling.{subproblem_lines, section_lines, trailer_lines, certificate_lines, text_of, block_lines, verdict_line, end_text}
+use Rattle.cert_theory.specs.Spelling.{subproblem_lines, section_lines, text_of}
 use Rattle.cert_theory.specs.SubproblemLines.{is_line, ended_in}
 use Rattle.cert_laws.specs.LinesAgain.{ended_again}
 use Rattle.cert_laws.specs.SectionLists.{log_holds}
 use Rattle.cert_laws.specs.LineSpellings.{is_line_back}
-use Rattle.cmd_formula.specs.LogLines.{lines_after, lines_before, after_logs, log_from, log_lines, found_lines, has_log}
+use Rattle.cmd_formula.specs.LogLines.{lines_after, lines_before, after_logs, log_from, found_lines}
 
 -- ---- lines without a text
 

@@ -1,47 +1,24 @@
 -- How many logs a section has, among the lines of a valid certificate: a part beyond them has none.
-use Rattle.std.proofs.Common.{◌≡◌, ℕ, zero, suc, ◌+◌, ◌%◌, ◌^◌, ◌<◌, ◌≤◌, Bool, true, false, cond, List}
-use Rattle.std.proofs.Common.{[], ◌∷◌, ◌++◌, length, map, Option, Some, None, refl, sym, ap, ◌∙◌, subst, arith, append_assoc, append-nil}
-use Rattle.std.specs.Prelude.{codes, decimal, is_some, slice_get}
-use Rattle.std.specs.List.{flat_map, range_with_len, AllByRecursion}
-use Rattle.std.proofs.lemmas.List.Elements.{recursion_from_All}
-use Rattle.std.specs.Str.{bytes_eq}
-use Rattle.std.proofs.lemmas.Fmt.{decimal_by_steps}
-use Rattle.std.proofs.lemmas.Grind.{common_steps}
-use Rattle.std.proofs.lemmas.Slice.Eq.{bytes_eq-Decides}
+use Rattle.std.proofs.Common.{◌≡◌, ℕ, zero, suc, ◌+◌, ◌<◌, ◌≤◌, Bool, true, false, cond, List}
+use Rattle.std.proofs.Common.{[], ◌∷◌, ◌++◌, length, map, Option, Some, None, refl, sym, ap, ◌∙◌, subst, arith, append_assoc}
+use Rattle.std.specs.Prelude.{slice_get}
+use Rattle.std.specs.List.{flat_map}
 use Rattle.text_core.specs.Lines.{Line}
-use Rattle.text_core.specs.Numbers.{number_up_to}
-use Rattle.text_core.specs.Words.{after, begins_lower}
-use Rattle.text_core.specs.ReadBack.{word_back, number_back}
-use Rattle.chain_theory.specs.declared.data.Cell.{Cell}
-use Rattle.chain_theory.specs.declared.data.Cell.TheVariants.{Zero, One, Free}
 use Rattle.chain_theory.specs.Limits.{most_steps}
 use Rattle.chain_theory.specs.Chain.{Chain, Step}
 use Rattle.chain_theory.specs.declared.data.Out.{Out}
 use Rattle.chain_core.specs.Spelling.{line, step_text, step_lines, out_text, out_line, count_text}
-use Rattle.sat_theory.specs.Line as theory
-use Rattle.sat_theory.specs.Line.{IsLine}
-use Rattle.sat_theory.specs.State.{State, start, next}
-use Rattle.sat_theory.specs.Log.{IsStep, EachLine}
-use Rattle.lrat_text.specs.Spelling.{line_body, line_text}
-use Rattle.tt_core.specs.Words.{Words, cell_of}
-use Rattle.tt_core.specs.Spelling.{character}
-use Rattle.enc_theory.specs.declared.subproblem.Subproblem.{Subproblem}
-use Rattle.enc_theory.specs.declared.subproblem.Subproblem.TheVariants.{Whole, Levels}
+use Rattle.lrat_text.specs.Spelling.{line_text}
 use Rattle.cert_theory.specs.declared.data.Header.{Header}
 use Rattle.cert_theory.specs.declared.data.Verdict.{Verdict}
 use Rattle.cert_theory.specs.declared.data.Verdict.TheVariants as verdicts
-use Rattle.cert_theory.specs.declared.data.LogEnd.{LogEnd}
-use Rattle.cert_theory.specs.declared.data.LogEnd.TheVariants as ends
-use Rattle.cert_theory.specs.Certificate.{SubproblemLog, Section, Certificate, IsSubproblemLog, IsSection, AreSections, IsValid, formula_of}
-use Rattle.cert_theory.specs.Spelling.{table_text, table_line, basis_line, method_line, conflicts_line, max_line, header_lines, size_line}
-use Rattle.cert_theory.specs.Spelling.{fence_text, name_lines, ended_text, done_text, log_line}
-use Rattle.cert_theory.specs.Spelling.{subproblem_lines, section_lines, trailer_lines, certificate_lines, text_of, block_lines, verdict_line, end_text}
-use Rattle.cert_theory.specs.SubproblemLines.{is_line, ended_in}
-use Rattle.cert_laws.specs.LinesAgain.{ended_again}
-use Rattle.cert_laws.specs.SectionLists.{log_holds}
+use Rattle.cert_theory.specs.Certificate.{SubproblemLog, Section, Certificate, IsSubproblemLog, IsSection, AreSections, IsValid}
+use Rattle.cert_theory.specs.Spelling.{header_lines, size_line, done_text, subproblem_lines, section_lines, trailer_lines, certificate_lines, text_of, block_lines, verdict_line, end_text}
+use Rattle.cert_theory.specs.SubproblemLines.{is_line}
 use Rattle.cert_laws.specs.LineSpellings.{is_line_back}
-use Rattle.cmd_formula.specs.LogLines.{lines_after, lines_before, after_logs, log_from, log_lines, found_lines, has_log}
-use Rattle.cmd_formula.specs.LineLaws.{Without, without_both, passed, found_here, done_not_size, inner, inner_not_done, inner_not_size, subproblem_parts, AreLogs, logs_of, first_section, section_not_size, log_in_sections, section_log, header_not_size, log_bytes}
+use Rattle.cmd_formula.specs.LogLines.{lines_after, log_lines, found_lines, has_log}
+use Rattle.cmd_formula.specs.LineLaws.{Without, without_both, passed, found_here, done_not_size, inner, inner_not_done, inner_not_size, subproblem_parts}
+use Rattle.cmd_formula.specs.LineLaws.{AreLogs, logs_of, first_section, section_not_size, log_in_sections, section_log, header_not_size, log_bytes}
 
 -- ---- how many logs a section has
 
@@ -69,19 +46,16 @@ has_later other n ls =
     ap (λ (t : Bool). cond t false (cond (is_line done_text (line done_text)) (has_log (size_line other) n ls) (has_log (size_line other) (suc n) ls))) (done_not_size other)
     ∙ ap (λ (t : Bool). cond t (has_log (size_line other) n ls) (has_log (size_line other) (suc n) ls)) (is_line_back done_text)
 
+none_by : (stops ends more rest : Bool) → ends ≡ false → rest ≡ false → cond stops false (cond ends more rest) ≡ false
+none_by true ends more rest e none = refl
+none_by false true more rest e none = absurd cc
+none_by false false more rest e none = none
+
 has_none : (text : List ℕ) (others : ℕ) (ls : List Line) → Without done_text ls → has_log text others ls ≡ false
 unfolding Without has_log
 has_none text others [] without = refl
-has_none text zero (l ∷ ls) without = by (is_line text l)
-  where
-    by : (t : Bool) → cond t false (cond (is_line done_text l) true (has_log text zero ls)) ≡ false
-    by true = refl
-    by false = ap (λ (t : Bool). cond t true (has_log text zero ls)) without.0 ∙ has_none text zero ls without.1
-has_none text (suc n) (l ∷ ls) without = by (is_line text l)
-  where
-    by : (t : Bool) → cond t false (cond (is_line done_text l) (has_log text n ls) (has_log text (suc n) ls)) ≡ false
-    by true = refl
-    by false = ap (λ (t : Bool). cond t (has_log text n ls) (has_log text (suc n) ls)) without.0 ∙ has_none text (suc n) ls without.1
+has_none text zero (l ∷ ls) without = none_by (is_line text l) (is_line done_text l) true (has_log text zero ls) without.0 (has_none text zero ls without.1)
+has_none text (suc n) (l ∷ ls) without = none_by (is_line text l) (is_line done_text l) (has_log text n ls) (has_log text (suc n) ls) without.0 (has_none text (suc n) ls without.1)
 
 has_stop : (text : List ℕ) (others : ℕ) (ls : List Line) → has_log text others (line text ∷ ls) ≡ false
 unfolding has_log
@@ -140,8 +114,7 @@ from_section h k i [] s ls are small is = absurd cc
 from_section h k zero (t ∷ ss) s ls are small is =
     let same : t ≡ s = cc in
     let size : k + 0 ≡ k = omega arith in
-    let own : k + 0 ≡ t.size = omega (arith, are.0.size_is) in
-    (
+    let own : k + 0 ≡ t.size = omega (arith, are.0.size_is) in (
       ss,
       subst (λ (n : ℕ). AreSections h (n + 1) ss) (sym size) are.1,
       subst (λ (x : Section). IsSection h (k + 0) x) same (subst (λ (n : ℕ). IsSection h n t) (sym size) are.0),
@@ -152,8 +125,7 @@ from_section h k zero (t ∷ ss) s ls are small is =
     )
 from_section h k (suc i) (t ∷ ss) s ls are small is =
     let same : k + suc i ≡ k + 1 + i = omega arith in
-    let rest = from_section h (k + 1) i ss s ls are.1 (omega (arith, small)) is in
-    (
+    let rest = from_section h (k + 1) i ss s ls are.1 (omega (arith, small)) is in (
       rest.0,
       subst (λ (n : ℕ). AreSections h (n + 1) rest.0) (sym same) rest.1,
       subst (λ (n : ℕ). IsSection h n s) (sym same) rest.2,

@@ -1,8 +1,7 @@
-use Rattle.std.proofs.Common.{subst}
-use Rattle.settings.specs.declared.synth.SynthSettings.{SynthSettings}
 use Rattle.command_line.specs.CommandLine.{spelled}
 use Rattle.cmd_improve.specs.NamedLaws.{named_is_task}
 use Rattle.cmd_synth.specs.SynthLaws.{synth_is_task}
+use Rattle.front_app.specs.Named.{with_method}
 use Rattle.front_app.proofs.Naming.{passed, improved, synthesised}
 use Rattle.front_app.proofs.named.run_named.Goals as goal
 
