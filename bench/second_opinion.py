@@ -3,7 +3,7 @@
 
 Random questions of which everything that the program claims is judged by others: N cases (2,000) with the seeds S,
 S + 1 and so on (1). The formulas are those of dimacs.py and miter.py, which share nothing with the program; logs are
-judged by lrat.c, and formulas by cadical or minisat where one is installed.
+judged by lrat.c, and formulas by cadical and minisat, as far as they are installed.
 
 Three cases of four are truth tables of 1 to 3 inputs and 1 to 3 outputs, with and without don't-cares, by all methods,
 over bases of every kind (closed under exchange or not, with constants, projections, negations). Of each certificate of
@@ -12,12 +12,13 @@ over bases of every kind (closed under exchange or not, with constants, projecti
 - `recheck` accepts it with its own verdict;
 - each log that refutes is a refutation of the formula of its size and fence, as dimacs.py writes it, and begins at the
   number after the last clause;
-- a solver finds no model of a formula that is refuted, and a model of that of the chain's size;
+- solvers find no model of a formula that is refuted, and a model of that of the chain's size;
 - `formula`, where the program has it, writes each formula and log byte for byte as dimacs.py does.
 
 The others are pairs of netlists with repeated, constant and unused inputs and latches: one with its tables in another
 order, what `improve` makes of it, or with a cover line changed. `equal` is judged as above over the miter of miter.py;
-of `differ` a solver has to find a model.
+of `differ` solvers have to find a model. `equiv --formula --log`, where the program has it, writes the miter byte for byte
+as miter.py does, and the log of its answer.
 
 It prints a line for each seed with a fault, and `N cases, N fine`. Status 0; 1 where there was a fault, or for other
 arguments; 2 without a C compiler."""
@@ -115,11 +116,12 @@ def changed(source, tables):
 
 
 class Judge:
-    """The program, the checker, and a solver if there is one."""
+    """The program, the checker, and the solvers that are there."""
 
-    def __init__(self, program, checker, solver):
-        self.program, self.checker, self.solver = program, checker, solver
+    def __init__(self, program, checker, solvers):
+        self.program, self.checker, self.solvers = program, checker, solvers
         self.writes = run([program, 'formula'])[0] != USAGE
+        self.pairs = run([program, 'equiv', '--formula', 'nowhere/f', 'nowhere', 'nowhere'])[0] != USAGE
 
     def same(self, path, size, part, formula, lines, folder):
         """Asks that the program writes a part of a certificate as dimacs.py does."""
@@ -137,6 +139,28 @@ class Judge:
         if written != ''.join(f'{line}\n' for line in lines):
             raise Fault('the log of `formula` differs from that of dimacs.py')
 
+    def same_miter(self, first, second, formula, answer, lines, folder):
+        """Asks that the program writes the miter of two netlists, and the log if there is one, as miter.py does."""
+        if not self.pairs:
+            return
+        paths = [os.path.join(folder, name) for name in ('first', 'second', 'miter', 'written')]
+        for path, text in zip(paths, (first, second)):
+            with open(path, 'w', encoding='ascii') as file:
+                file.write(text)
+        one, other, miters, log = paths
+        _, text, notes = run([self.program, 'equiv', '--formula', miters, '--log', log, one, other])
+        if text != answer:
+            raise Fault(f'`equiv` answers otherwise with --formula: {notes.strip()}')
+        with open(miters, encoding='ascii') as file:
+            if file.read() != formula:
+                raise Fault('the formula of `equiv` differs from that of miter.py')
+        if os.path.exists(log) != (lines is not None):
+            raise Fault('a log without a refutation, or none of one')
+        if lines is not None:
+            with open(log, encoding='ascii') as file:
+                if file.read() != ''.join(f'{line}\n' for line in lines):
+                    raise Fault('the log of `equiv` differs from that of its answer')
+
     def refutes(self, formula, lines, folder):
         """Asks that a log refutes a formula, and begins behind its last clause."""
         count = int(formula.split(None, 4)[3])
@@ -153,11 +177,11 @@ class Judge:
         self.decides(paths[0], False)
 
     def decides(self, path, satisfiable):
-        """Asks the solver whether a formula has a model."""
-        if self.solver:
-            status, _, _ = run([self.solver, path])
+        """Asks each solver whether a formula has a model."""
+        for solver in self.solvers:
+            status, _, _ = run([solver, path])
             if status != (10 if satisfiable else 20):
-                raise Fault(f'{os.path.basename(self.solver)} ends with {status}')
+                raise Fault(f'{os.path.basename(solver)} ends with {status}')
 
     def has_model(self, formula, folder):
         path = os.path.join(folder, 'formula')
@@ -217,10 +241,12 @@ def equivalence(judge, source, folder):
         raise Fault(f'equiv ({kind}): status {status}, {notes.strip()}')
     formula = miter.dimacs(miter.Netlist(first), miter.Netlist(second))
     if verdict == 'differ':
+        judge.same_miter(first, second, formula, answer, None, folder)
         judge.has_model(formula, folder)
         return
-    lines = answer.split('\n')[1:-2]
-    judge.refutes(formula, lines or miter.empty(formula), folder)
+    lines = answer.split('\n')[1:-2] or miter.empty(formula)
+    judge.same_miter(first, second, formula, answer, lines, folder)
+    judge.refutes(formula, lines, folder)
 
 
 def fault_of(judge, seed):
@@ -246,18 +272,18 @@ def main():
     if not given.cc:
         print('second_opinion.py: no C compiler here', file=sys.stderr)
         return 2
-    solver = shutil.which('cadical') or shutil.which('minisat')
+    solvers = [path for path in map(shutil.which, ('cadical', 'minisat')) if path]
     seeds = range(given.seed, given.seed + given.count)
     with tempfile.TemporaryDirectory() as folder:
         checker = os.path.join(folder, 'lrat')
         subprocess.run([given.cc, '-O2', '-o', checker, os.path.join(HERE, 'lrat.c')], check=True)
-        ask = functools.partial(fault_of, Judge(os.path.abspath(given.program), checker, solver))
+        ask = functools.partial(fault_of, Judge(os.path.abspath(given.program), checker, solvers))
         with concurrent.futures.ProcessPoolExecutor(given.jobs) as pool:
             faults = list(pool.map(ask, seeds, chunksize=10))
     for seed, fault in zip(seeds, faults):
         if fault:
             print(f'seed {seed}: {fault}')
-    beside = f', also by {os.path.basename(solver)}' if solver else ''
+    beside = f', also by {" and ".join(map(os.path.basename, solvers))}' if solvers else ''
     print(f'{len(faults)} cases, {faults.count("")} fine{beside}')
     return 1 if any(faults) else 0
 

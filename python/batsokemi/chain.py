@@ -12,14 +12,15 @@ from typing import Any, Union, overload
 
 from .errors import ChainError
 from .tables import Tables
-from .texts import Text, text_of
+from .texts import NUMBER, Text, text_of
 
 # What an output is: a place from 1, or the constant False or True.
 Signal = Union[int, bool]
 
-HEAD = re.compile(r'^chain (\d{1,9})\r?$', re.MULTILINE)
-INPUTS = re.compile(r'^inputs (\d{1,9})\r?$', re.MULTILINE)
-STEP = re.compile(r'x(\d{1,9}) x(\d{1,9}) x(\d{1,9}) ([01]{4})')
+HEAD = re.compile(rf'^chain {NUMBER}\r?$', re.MULTILINE)
+INPUTS = re.compile(rf'^inputs {NUMBER}\r?$', re.MULTILINE)
+STEP = re.compile(rf'x{NUMBER} x{NUMBER} x{NUMBER} ([01]{{4}})')
+OUT = re.compile(rf'out (?:([01])|x{NUMBER})')
 
 
 @dataclass(frozen=True)
@@ -255,10 +256,10 @@ def chain_lines(text: str, start: int, count: int) -> tuple[list[Step], list[Sig
             continue
         if not line.startswith('out '):
             break
-        if not re.fullmatch(r'out (0|1|x\d{1,9})', line):
+        found = OUT.fullmatch(line)
+        if not found:
             raise ChainError(f'{line!r} is no output')
-        word = line.removeprefix('out ')
-        outs.append(int(word[1:]) if word.startswith('x') else word == '1')
+        outs.append(int(found[2]) if found[2] else found[1] == '1')
     if len(steps) < count:
         raise ChainError(f'the chain is cut off: {len(steps)} steps of {count}')
     if not outs:

@@ -106,7 +106,7 @@ def fault_of(command: str, given: Mapping[str, Value]) -> tuple[str | None, str]
             continue
         takes = wanted(kinds[option_of(argument)], word_of(value)) if option_of(argument) in kinds else 'no value'
         if takes:
-            return argument, f'{command}: {argument} takes {takes}, and not {word_of(value)}'
+            return argument, f'{command}: {argument} takes {takes}, and not {word_of(value) or "an empty word"}'
     if given.get('least_depth') and given.get('method') != 'fence':
         return 'least_depth', f"{command}: least_depth goes with the method 'fence', and not with {given['method']!r}"
     if given.get('netlist_format') == 'bench':

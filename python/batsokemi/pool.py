@@ -78,7 +78,9 @@ def tabulate(
     Raises
     ------
     UsageError
-        If an option isn't one of `synth`, or has no such value.
+        If an option has no such value.
+    TypeError
+        If an option isn't one of `synth`.
 
     Examples
     --------

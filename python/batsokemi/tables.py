@@ -9,7 +9,7 @@ from dataclasses import dataclass
 from typing import Union
 
 from .errors import TablesError
-from .texts import lines_of, text_of
+from .texts import NUMBER, lines_of, text_of
 
 
 @dataclass(frozen=True)
@@ -44,6 +44,7 @@ class Tables:
     def __post_init__(self) -> None:
         if not self.rows:
             raise TablesError('there is no table')
+        check_inputs(self.inputs)
         for row in self.rows:
             other = set(row) - set('01-')
             if other:
@@ -78,10 +79,19 @@ class Tables:
         return tuple(f'0x{hex_of(row, self.inputs)}' for row in self.rows)
 
 
+# More inputs than that are refused here, since a row has 2 ** inputs characters; the program takes fewer.
+MOST_NAMED = 20
+
 # One table: a row of characters, hex with 0x in front, or a number.
 Table = Union[str, int]
 # All that is taken for tables: also the text of a file of tables, and its path.
 TablesLike = Union[Tables, Table, bytes, 'os.PathLike[str]', Sequence[Table]]
+
+
+def check_inputs(inputs: int) -> None:
+    """Raises an error where tables can't have so many inputs; how many the program takes is another question."""
+    if not 0 <= inputs <= MOST_NAMED:
+        raise TablesError(f'tables have 0 to {MOST_NAMED} inputs here, and not {inputs}')
 
 
 def mirrored(row: int, inputs: int) -> int:
@@ -104,6 +114,7 @@ def row_of(number: int, inputs: int) -> str:
     >>> row_of(0xAA, 3)
     '00001111'
     """
+    check_inputs(inputs)
     if not 0 <= number < 1 << 2**inputs:
         raise TablesError(f'{number:#x} is no table of {inputs} inputs, which has {2**inputs} rows')
     return ''.join(str(number >> mirrored(t, inputs) & 1) for t in range(2**inputs))
@@ -182,7 +193,7 @@ def tables_of(given: TablesLike, inputs: int | None = None) -> Tables:
 
 def tables_in(lines: Sequence[str]) -> Tables:
     """The tables of lines that say nothing else, as `synth` reads them."""
-    found = re.fullmatch(r'inputs (\d{1,2})', lines[0]) if lines else None
+    found = re.fullmatch(f'inputs {NUMBER}', lines[0]) if lines else None
     if not found:
         raise TablesError(f'the first line of tables is `inputs N`, and not {lines[0] if lines else ""!r}')
     return Tables(int(found[1]), tuple(lines[1:]))

@@ -9,6 +9,9 @@ from typing import Union
 # A text itself, as `str` or `bytes`, or the path of a file that has it. A `str` is never a path.
 Text = Union[str, bytes, 'os.PathLike[str]']
 
+# A number in a text: ASCII digits, at most nine, without a leading 0.
+NUMBER = '(0|[1-9][0-9]{0,8})'
+
 
 def bytes_of(given: Text) -> bytes:
     """The bytes of a text.

@@ -49,6 +49,9 @@ ADDERS = """.model adders
 ADDER = EXAMPLES / 'improve' / 'adder.blif'
 
 
+# The options that only the program with files has.
+FRONT_ALONE = ('--size', '--part', '--most-bytes')
+
 class Synthesis(unittest.TestCase):
     @everywhere
     def test_full_adder(self, made: batsokemi.Engine) -> None:
@@ -205,7 +208,7 @@ class Errors(unittest.TestCase):
         for line in table.stdout.splitlines():
             command, option, kind, _ = line.split('|')
             name, *rest = kind.split()
-            if name != 'file' and command != 'formula':  # which the library hasn't
+            if name != 'file' and command != 'formula' and option not in FRONT_ALONE:  # which the library hasn't
                 taken = 'basis' if name == 'basis' else tuple(map(int, rest)) if name == 'number' else tuple(rest)
                 said.setdefault(command, {})[option.removeprefix('--')] = taken
         self.assertEqual(options.KINDS, said)

@@ -1,3 +1,4 @@
 pub mod Keeping
 pub mod Rechecking
 pub mod RecheckingDepth
+pub mod RecheckingLong

@@ -19,10 +19,10 @@ use Rattle.depth_theory.specs.VerdictLaws.{is_verdict}
 
 -- ---- the result of judging a certificate
 
-no_verdict : (read : Result Verdict CertificateError) (e : CertificateError) (w : Verdict) → read ≡ Err e → read ≡ Ok w → ⊥
+pub no_verdict : (read : Result Verdict CertificateError) (e : CertificateError) (w : Verdict) → read ≡ Err e → read ≡ Ok w → ⊥
 no_verdict read e w is other = cc
 
-reported_fault : (e : CertificateError) (read : Result Verdict CertificateError) → Fails e read → (e ≡ certificates.Memory → ⊥) → read ≡ Err e
+pub reported_fault : (e : CertificateError) (read : Result Verdict CertificateError) → Fails e read → (e ≡ certificates.Memory → ⊥) → read ≡ Err e
 reported_fault (certificates.Syntax line) read fails other = fails
 reported_fault (certificates.SizeOutOfOrder line) read fails other = fails
 reported_fault (certificates.StepRefused line e) read fails other = fails

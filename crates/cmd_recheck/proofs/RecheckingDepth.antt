@@ -59,17 +59,17 @@ reported_fault (depths.OpenTooShort line) answer other fails = sym fails
 reported_fault (depths.WrongLevels line) answer other fails = sym fails
 reported_fault depths.Memory answer other fails = absurd (other refl)
 
-judged_fault : (e : DepthError) (lines : List Line) → (e ≡ depths.Memory → ⊥) → Judged (Gives (λ (v : DepthVerdict). v) (Err e)) lines → IsJudged lines (Err e)
+pub judged_fault : (e : DepthError) (lines : List Line) → (e ≡ depths.Memory → ⊥) → Judged (Gives (λ (v : DepthVerdict). v) (Err e)) lines → IsJudged lines (Err e)
 judged_fault e lines other judged = record {
   refused = λ d is. reported_fault e _ other (judged.refused d is);
   following = λ b valid output same. reported_fault e _ other (judged.following b valid output same);
 }
 
 -- a text that is judged to have a fault isn't a depth certificate
-no_certificate : (bytes : List ℕ) (e : DepthError) (b : DepthCertificate) → IsJudged (lines_of bytes) (Err e) → IsDepthText bytes b → ⊥
+pub no_certificate : (bytes : List ℕ) (e : DepthError) (b : DepthCertificate) → IsJudged (lines_of bytes) (Err e) → IsDepthText bytes b → ⊥
 no_certificate bytes e b judged is = let bad : Err e ≡ Ok b.verdict = judged_again bytes b (Err e) is judged in cc
 
-one_verdict : (answer : Answer) (v w : DepthVerdict) → answer ≡ Ok v → answer ≡ Ok w → v ≡ w
+pub one_verdict : (answer : Answer) (v w : DepthVerdict) → answer ≡ Ok v → answer ≡ Ok w → v ≡ w
 one_verdict answer v w is other = cc
 
 -- The result is a verdict of the bytes, or a fault.

@@ -5,14 +5,14 @@ use Rattle.line_reader.specs.Reader.{IsReader, StandsFor}
 use Rattle.line_reader.specs.Seen.{seen}
 use Rattle.frame_core.specs.Task.{Task, Refuses}
 use Rattle.frame_core.specs.Views.{refusal_value}
-use Rattle.depth_theory.specs.Verdicts.{most_of_certificate}
 use Rattle.cmd_recheck.specs.declared.job.Reading.{Reading}
 use Rattle.cmd_recheck.specs.declared.job.Reading.TheVariants.{Good, Refused}
 
--- the reader represents the bytes, or a line has a fault: whatever follows, the text is refused with it
-abbrev pub Keeps : {S : Type 0} → Task → (S → ℕ → List Line → List Line → Type 0) → Reading S → List ℕ → Type 0
-Keeps task stands (Good reader) bytes = StandsFor stands (seen reader) bytes
-Keeps task stands (Refused refusal) bytes = (rest : List ℕ) → length (bytes ++ rest) ≤ most_of_certificate → Refuses task (bytes ++ rest) (refusal_value refusal)
+-- the reader represents the bytes, or a line has a fault: whatever follows, the text is refused with it, if it has no
+-- more bytes than are read
+abbrev pub Keeps : {S : Type 0} → Task → ℕ → (S → ℕ → List Line → List Line → Type 0) → Reading S → List ℕ → Type 0
+Keeps task most stands (Good reader) bytes = StandsFor stands (seen reader) bytes
+Keeps task most stands (Refused refusal) bytes = (rest : List ℕ) → length (bytes ++ rest) ≤ most → Refuses task (bytes ++ rest) (refusal_value refusal)
 
 -- the invariant of the reader holds
 abbrev pub IsWhole : {S : Type 0} → (S → ℕ → Type 0) → (S → ℕ) → Reading S → Type 0

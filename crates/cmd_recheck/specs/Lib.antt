@@ -1,4 +1,6 @@
 pub mod Keeping
+pub mod LongLaws
+pub mod LongReport
 pub mod Obligations
 pub mod QuestionLaws
 pub mod RecheckDepthLaws

@@ -29,7 +29,7 @@ use Rattle.depth_file.specs.AnswerLaws.{one_answer}
 use Rattle.cmd_recheck.specs.RecheckLaws.{status_kind}
 use Rattle.cmd_recheck.specs.QuestionLaws.{depth_asks, levels_answer}
 
-one_fault : (answer : Answer) (d e : DepthError) → answer ≡ Err d → answer ≡ Err e → d ≡ e
+pub one_fault : (answer : Answer) (d e : DepthError) → answer ≡ Err d → answer ≡ Err e → d ≡ e
 one_fault answer d e is other = cc
 
 -- ---- `recheck --depth yes` is a command
@@ -45,7 +45,7 @@ of_inside e =
     (λ (is : e ≡ certificates.Memory). inr (ap (λ (x : CertificateError). depth_refusal (depths.Certificate x)) is ∙ of_memory))
     (status_kind e)
 
-faults : (e : DepthError) → IsFaultRefusal (depth_refusal e)
+pub faults : (e : DepthError) → IsFaultRefusal (depth_refusal e)
 unfolding named_depth
 faults (depths.Certificate e) = of_inside e
 faults depths.NotLeastForm = inl (inr refl)

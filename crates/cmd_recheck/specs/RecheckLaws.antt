@@ -42,17 +42,17 @@ of_memory : recheck_refusal certificates.Memory ≡ memory_refusal
 unfolding named_certificate
 of_memory = refl
 
-faults : (e : CertificateError) → IsFaultRefusal (recheck_refusal e)
+pub faults : (e : CertificateError) → IsFaultRefusal (recheck_refusal e)
 faults e =
     ⊎_elim
     (λ (is : (certificate_status e ≡ Malformed) ⊎ (certificate_status e ≡ Refused)). inl is)
     (λ (is : e ≡ certificates.Memory). inr (ap recheck_refusal is ∙ of_memory))
     (status_kind e)
 
-not_both : {A : Type 0} (read : Result Verdict CertificateError) (v : Verdict) (e : CertificateError) → read ≡ Ok v → read ≡ Err e → A
+pub not_both : {A : Type 0} (read : Result Verdict CertificateError) (v : Verdict) (e : CertificateError) → read ≡ Ok v → read ≡ Err e → A
 not_both read v e is other = absurd cc
 
-one_error : (read : Result Verdict CertificateError) (d e : CertificateError) → read ≡ Err d → read ≡ Err e → d ≡ e
+pub one_error : (read : Result Verdict CertificateError) (d e : CertificateError) → read ≡ Err d → read ≡ Err e → d ≡ e
 one_error read d e is other = cc
 
 pub recheck_is_task : IsTask recheck_task

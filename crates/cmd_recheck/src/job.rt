@@ -3,7 +3,6 @@
 ghost use Rattle.std.specs.Prelude.{◌≡◌, ℕ, ◌+◌, ◌^◌, ◌<◌, ◌≤◌, List, ◌++◌, Some, None, Ok, Err, IfOk, length};
 ghost use Rattle.line_reader.specs.Reader.{IsReader, StandsFor};
 ghost use Rattle.line_reader.specs.Seen.{seen};
-ghost use Rattle.depth_theory.specs.Verdicts.{most_of_certificate};
 ghost use Rattle.cmd_recheck.specs.Keeping.{Keeps, IsWhole, count_of};
 ghost use Rattle.frame_core.specs.declared.status.Status.TheVariants.{Done};
 ghost use Rattle.frame_core.specs.Task.{Task, HasReply};
@@ -14,8 +13,8 @@ use line_reader::{LineStage, PieceReader};
 use port_io::Sink;
 use std::alloc::{AllocError, Global};
 
-/// The most bytes that `recheck` reads: 256 MiB.
-const MOST_BYTES: usize = 268_435_456;
+/// The most bytes of a certificate that the program without files reads: 256 MiB.
+pub(crate) const MOST_BYTES: usize = 268_435_456;
 
 /// The state of reading a certificate whose lines the stage `S` takes.
 #[derive(Drop)]
@@ -35,7 +34,14 @@ pub trait CertificateKind {
     ghost task: { Self → Task };
 
     /// The most bytes that are read.
-    ghost reads: { (kind : Self) → (task kind).reads ≡ Some most_of_certificate };
+    ghost most: { Self → ℕ };
+
+    /// It is what the task says.
+    ghost reads: { (kind : Self) → (task kind).reads ≡ Some (most kind) };
+
+    /// The most bytes that are read.
+    fn most_bytes(&self) -> usize
+        ensures { result ≡ most self.now };
 
     /// The output for the result of a certificate.
     fn text_of(
@@ -43,7 +49,7 @@ pub trait CertificateKind {
         alloc: Global,
         end: <Self::Lines as LineStage>::End,
     ) -> Result<Vec<u8>, AllocError>
-        ensures { (bytes : List ℕ) → length bytes ≤ most_of_certificate → Self.Lines.gives (Ok end) bytes →
+        ensures { (bytes : List ℕ) → length bytes ≤ most self.now → Self.Lines.gives (Ok end) bytes →
             IfOk result (λ text. HasReply (task self.now) bytes (record {
               text = text.items;
               report = None;
@@ -52,7 +58,7 @@ pub trait CertificateKind {
 
     /// The refusal of a text with this fault.
     fn stop(&self, fault: <Self::Lines as LineStage>::Fault) -> Stop
-        ensures { (bytes : List ℕ) → length bytes ≤ most_of_certificate → Self.Lines.gives (Err fault) bytes →
+        ensures { (bytes : List ℕ) → length bytes ≤ most self.now → Self.Lines.gives (Err fault) bytes →
             Judges (task self.now) bytes (Err result) };
 }
 
@@ -66,7 +72,7 @@ fn read_on<K: CertificateKind>(
     requires room { reader.fed + length piece.now < 2 ^ 31 }
     ensures whole { IfOk result (λ next. IsWhole K.Lines.whole K.Lines.held next) }
     ensures keeps { (bytes : List ℕ) → StandsFor K.Lines.stands (seen reader) bytes →
-        IfOk result (λ next. Keeps (K.task kind.now) K.Lines.stands next (bytes ++ piece.now)) }
+        IfOk result (λ next. Keeps (K.task kind.now) (K.most kind.now) K.Lines.stands next (bytes ++ piece.now)) }
     ensures count { IfOk result (λ next. count_of next ≤ reader.fed + length piece.now) }
 {
     match reader.feed(piece) {
@@ -84,7 +90,7 @@ fn reply_to<K: CertificateKind>(
     kind: &K,
     end: <K::Lines as LineStage>::End,
 ) -> Result<Reply, Stop>
-    ensures { (bytes : List ℕ) → length bytes ≤ most_of_certificate → K.Lines.gives (Ok end) bytes →
+    ensures { (bytes : List ℕ) → length bytes ≤ K.most kind.now → K.Lines.gives (Ok end) bytes →
         Judges (K.task kind.now) bytes result }
 {
     match kind.text_of(alloc, end) {
@@ -104,8 +110,8 @@ fn reply_of<K: CertificateKind>(
     kept: Reading<K::Lines>,
 ) -> Result<Reply, Stop>
     requires { IsWhole K.Lines.whole K.Lines.held kept }
-    ensures { (bytes : List ℕ) → Keeps (K.task kind.now) K.Lines.stands kept bytes →
-        length bytes ≤ most_of_certificate →
+    ensures { (bytes : List ℕ) → Keeps (K.task kind.now) (K.most kind.now) K.Lines.stands kept bytes →
+        length bytes ≤ K.most kind.now →
         Judges (K.task kind.now) bytes result }
 {
     match kept {
@@ -124,18 +130,18 @@ pub struct Recheck<K>(pub K);
 impl<K: CertificateKind> StreamJob for Recheck<K> {
     ghost task = { λ job. K.task job.0 };
 
-    ghost ready = { λ _. Unit {0} };
+    ghost ready = { λ job. K.most job.0 < 2 ^ 31 };
 
     type Kept = Reading<K::Lines>;
 
-    ghost holds = { λ job kept bytes. Keeps (K.task job.0) K.Lines.stands kept bytes };
+    ghost holds = { λ job kept bytes. Keeps (K.task job.0) (K.most job.0) K.Lines.stands kept bytes };
 
     ghost whole = { λ _ kept. IsWhole K.Lines.whole K.Lines.held kept };
 
     ghost count = { λ _ kept. count_of kept };
 
     fn reads(&self) -> Option<usize> {
-        Some(MOST_BYTES)
+        Some(self.0.most_bytes())
     }
 
     fn begin(&self, alloc: Global) -> Reading<K::Lines> {

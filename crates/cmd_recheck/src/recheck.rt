@@ -1,10 +1,11 @@
 //! Certificates of the fewest steps, as a kind for the job of `recheck`.
 ghost use Rattle.std.specs.Prelude.{◌≡◌, IfOk, refl};
+ghost use Rattle.depth_theory.specs.Verdicts.{most_of_certificate};
 ghost use Rattle.cmd_recheck.specs.RecheckReport.{verdict_text, recheck_refusal, recheck_task};
 ghost use Rattle.frame_core.specs.Views.{refusal_value};
 
 use crate::certificates::{certificate_status, name_certificate};
-use crate::job::CertificateKind;
+use crate::job::{CertificateKind, MOST_BYTES};
 use cert_file::{CertificateError, Stage, Verdict};
 use frame_core::{Field, Refusal, Stop};
 use std::alloc::{AllocError, Global};
@@ -12,7 +13,7 @@ use text_core::push_number;
 
 /// A fault as a refusal.
 #[tactic(auto, unfolding(frame_core::specs::Views::shown))]
-fn refusal_of(error: CertificateError) -> Refusal
+pub(crate) fn refusal_of(error: CertificateError) -> Refusal
     ensures { refusal_value result ≡ recheck_refusal error }
 {
     Refusal {
@@ -23,7 +24,7 @@ fn refusal_of(error: CertificateError) -> Refusal
 
 /// The text of a verdict.
 #[tactic(auto, unfolding(crate::specs::RecheckReport::verdict_text, cert_theory::specs::Spelling::verdict_line))]
-fn verdict_bytes(alloc: Global, verdict: Verdict) -> Result<Vec<u8>, AllocError>
+pub(crate) fn verdict_bytes(alloc: Global, verdict: Verdict) -> Result<Vec<u8>, AllocError>
     ensures { IfOk result (λ text. text.items ≡ verdict_text verdict) }
 {
     let mut text = Vec::new(alloc);
@@ -60,7 +61,13 @@ impl CertificateKind for Steps {
 
     ghost task = { λ _. recheck_task };
 
+    ghost most = { λ _. most_of_certificate };
+
     ghost reads = { λ kind. refl };
+
+    fn most_bytes(&self) -> usize {
+        MOST_BYTES
+    }
 
     fn text_of(&self, alloc: Global, verdict: Verdict) -> Result<Vec<u8>, AllocError> {
         verdict_bytes(alloc, verdict)

@@ -1,11 +1,12 @@
 //! Certificates of the fewest levels, as a kind for the job of `recheck`.
 ghost use Rattle.std.specs.Prelude.{◌≡◌, IfOk, refl};
 ghost use Rattle.frame_core.specs.Views.{line_value, refusal_value};
+ghost use Rattle.depth_theory.specs.Verdicts.{most_of_certificate};
 ghost use Rattle.cmd_recheck.specs.RecheckDepthReport.{levels_text, depth_status as depth_status_of, named_inside};
 ghost use Rattle.cmd_recheck.specs.RecheckDepthReport.{named_depth, depth_refusal, depth_task};
 
 use crate::certificates::{certificate_status, name_certificate, name_step};
-use crate::job::CertificateKind;
+use crate::job::{CertificateKind, MOST_BYTES};
 use cert_file::CertificateError;
 use depth_file::{DepthError, DepthVerdict, Stage};
 use frame_core::{ErrorLine, Field, Refusal, Status, Stop};
@@ -64,7 +65,7 @@ fn name_depth(error: DepthError) -> ErrorLine
 }
 
 /// A fault as a refusal.
-fn refusal_of(error: DepthError) -> Refusal
+pub(crate) fn refusal_of(error: DepthError) -> Refusal
     ensures { refusal_value result ≡ depth_refusal error }
 {
     Refusal {
@@ -76,7 +77,7 @@ fn refusal_of(error: DepthError) -> Refusal
 /// The text of a verdict.
 #[tactic(auto, // for the prover
 unfolding(crate::specs::RecheckDepthReport::levels_text, depth_theory::specs::DepthSpelling::levels_line))]
-fn levels_bytes(alloc: Global, verdict: DepthVerdict) -> Result<Vec<u8>, AllocError>
+pub(crate) fn levels_bytes(alloc: Global, verdict: DepthVerdict) -> Result<Vec<u8>, AllocError>
     ensures { IfOk result (λ text. text.items ≡ levels_text verdict) }
 {
     let mut text = Vec::new(alloc);
@@ -105,7 +106,13 @@ impl CertificateKind for Levels {
 
     ghost task = { λ _. depth_task };
 
+    ghost most = { λ _. most_of_certificate };
+
     ghost reads = { λ kind. refl };
+
+    fn most_bytes(&self) -> usize {
+        MOST_BYTES
+    }
 
     fn text_of(&self, alloc: Global, verdict: DepthVerdict) -> Result<Vec<u8>, AllocError> {
         levels_bytes(alloc, verdict)

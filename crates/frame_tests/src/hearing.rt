@@ -23,6 +23,9 @@ impl Tell for Heard {
                 self.size.set(written.size.unwrap_or(0));
             }
             Progress::Gates(_) => {}
+            Progress::Subproblem { .. } | Progress::Logged(_) => {}
+            Progress::Compared { .. } => {}
+            Progress::Round | Progress::Root { .. } => {}
             Progress::Text => self.texts.set(self.texts.get().saturating_add(1)),
         }
     }

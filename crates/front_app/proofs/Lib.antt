@@ -1,2 +1,4 @@
 pub mod Comparing
 pub mod Naming
+pub mod AigerWords
+pub mod Fronting

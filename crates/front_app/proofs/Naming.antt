@@ -9,7 +9,7 @@ use Rattle.settings.specs.Synth.{IsInRange}
 use Rattle.command_line.specs.declared.command.Command.{Command}
 use Rattle.command_line.specs.declared.command.Command.TheVariants.{Agree, Recheck, RecheckDepth, Synth, LeastDepth, Improve, Equiv, Gen}
 use Rattle.command_line.specs.declared.command.WordsError.{WordsError}
-use Rattle.command_line.specs.CommandLine.{command_of, or_usage, read, AsksFor, IsAskable}
+use Rattle.command_line.specs.CommandLine.{command_of, or_usage, read, AsksFor, IsAskable, IsAsked}
 use Rattle.frame_core.specs.Run.{Run}
 use Rattle.frame_core.specs.Promise.{CommandPromise}
 use Rattle.cmd_improve.specs.ImproveReport.{FormatAsked}
@@ -82,7 +82,25 @@ range_by false settings range = record {
 pub range_with : (words : List (List ℕ)) (settings : SynthSettings) → IsInRange settings → IsInRange (with_method words settings)
 range_with words settings range = range_by (names_method words) settings range
 
-pub ruleset running = (common_steps, range_with)
+-- what is asked of each of the two
+pub improve_asked : (words : List (List ℕ)) (o : Asked) (format : FormatAsked) (settings : ImproveSettings) → o ≡ asks.Improve format settings →
+    IsAskedBy words (Some o) → AsksFor words (Improve format settings) × IsAsked format settings
+improve_asked words o format settings is asks_it = subst (λ (x : Asked). IsAskedBy words (Some x)) is asks_it
+
+pub synth_asked : (words : List (List ℕ)) (o : Asked) (settings : SynthSettings) → o ≡ asks.Synth settings →
+    IsAskedBy words (Some o) → AsksFor words (Synth settings) × IsInRange settings
+synth_asked words o settings is asks_it = subst (λ (x : Asked). IsAskedBy words (Some x)) is asks_it
+
+pub improve_ready : (words : List (List ℕ)) (o : Asked) (format : FormatAsked) (settings : ImproveSettings) → o ≡ asks.Improve format settings →
+    IsAskedBy words (Some o) → IsAsked format settings
+improve_ready words o format settings is asks_it = (improve_asked words o format settings is asks_it).1
+
+pub synth_ready : (words : List (List ℕ)) (o : Asked) (settings taken : SynthSettings) → o ≡ asks.Synth settings → taken ≡ with_method words settings →
+    IsAskedBy words (Some o) → IsInRange taken
+synth_ready words o settings taken is same asks_it =
+    subst IsInRange (sym same) (range_with words settings (synth_asked words o settings is asks_it).1)
+
+pub ruleset running = (common_steps, improve_ready, synth_ready)
 
 -- ---- the run
 
@@ -125,3 +143,8 @@ synthesised r settings asks_it promise = record {
       subst (λ (t : SynthSettings). CommandPromise (synth_task (with_method r.words t)) r) same promise;
   others = λ none. absurd (none.no_synth settings asks_it);
 }
+
+pub synthesised_by : (r : Run) (settings taken : SynthSettings) → AsksFor r.words (Synth settings) → taken ≡ with_method r.words settings →
+    CommandPromise (synth_task taken) r → KeepsNamed r
+synthesised_by r settings taken asks_it same promise =
+    synthesised r settings asks_it (subst (λ (s : SynthSettings). CommandPromise (synth_task s) r) same promise)

@@ -1,2 +1,4 @@
 pub mod Comparison
 pub mod Named
+pub mod Aiger
+pub mod Fronted

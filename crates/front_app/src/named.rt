@@ -26,7 +26,9 @@ pub(crate) enum Asked {
         settings: ImproveSettings,
     },
     /// `synth`, which has another default.
-    Synth { settings: SynthSettings },
+    Synth {
+        settings: SynthSettings,
+    },
 }
 
 /// What a command asks for where a named file makes a difference; None if it is another command.

@@ -1,87 +1,189 @@
-//! The front for the program of `chain_app`.
+//! The front for the programs of this crate.
+ghost use Rattle.std.specs.Prelude.{◌≡◌};
 ghost use Rattle.command_line.specs.CommandLine.{spelled};
 ghost use Rattle.frame_core.specs.Run.{before_after};
 ghost use Rattle.chain_app.specs.KeepsPromises.{KeepsPromises};
 ghost use Rattle.file_io.specs.Files.{files_before_after};
 ghost use Rattle.front_core.specs.Front.{front_run, promised_by};
 ghost use Rattle.front_guide.specs.Guided.{IsGuided};
-ghost use Rattle.front_app.specs.Comparison.{KeepsComparison};
+ghost use Rattle.front_app.specs.Aiger.{KeepsAiger};
+ghost use Rattle.front_app.specs.Comparison.{pair_of, blif_pair, KeepsComparison};
+ghost use Rattle.front_app.specs.Fronted.{promises_of, IsFronted};
 ghost use Rattle.front_app.specs.Named.{KeepsNamed};
 
-use crate::named::run_named;
-use cdcl_core::Cdcl;
-use cmd_equiv::EquivWith;
+use crate::formats::{InAiger, InBench, InBlif, KnownFormat};
+use crate::programs::{OverAiger, Strict};
 use file_io::Outside;
-use frame_core::{AtOnce, Status, perform};
-use front_core::Program;
+use format_names::{FormatPair, NetFormat};
+use format_words::{FormatsAsked, read_formats};
+use frame_core::Status;
+use front_core::report_memory;
 use front_guide::{Recalls, Rereads, Retells, guide};
-use port_io::{Sink, Source};
+use port_io::Sink;
 use progress::Tell;
 use std::alloc::Global;
 use std::marker::PhantomData;
 
-/// The program without files, and who is told of its progress.
-#[derive(Drop)]
-struct Strict<'a, T> {
-    tell: &'a T,
+/// Guides a run whose comparisons are of netlists in two formats.
+fn guide_pair<
+    F: KnownFormat,
+    G: KnownFormat,
+    W: Outside,
+    S: Recalls,
+    O: Sink,
+    N: Retells,
+    R: Rereads,
+    T: Tell,
+>(
+    alloc: Global,
+    words: &Vec<String>,
+    outside: &mut W,
+    source: &mut S,
+    out: &mut O,
+    note: &mut N,
+    reader: &R,
+    tell: &T,
+) -> Status
+    ensures { IsGuided (promised_by KeepsPromises KeepsNamed (KeepsComparison (pair_of F.named G.named)))
+        (front_run (spelled words.now)
+        (files_before_after W.holds W.faults outside.old outside.new)
+        (before_after S.left S.faults source.old source.new)
+        (before_after O.written O.faults out.old out.new)
+        (before_after N.written N.faults note.old note.new)
+        result) }
+{
+    let strict = Strict {
+        tell,
+        first: PhantomData::<F>,
+        second: PhantomData::<G>,
+    };
+    guide(alloc, &strict, words, outside, source, out, note, reader)
 }
 
-impl<'a, T: Tell> Program for Strict<'a, T> {
-    ghost use Rattle.chain_app.specs.KeepsPromises.{KeepsPromises};
-    ghost use Rattle.front_app.specs.Comparison.{KeepsComparison};
-    ghost use Rattle.front_app.specs.Named.{KeepsNamed};
-
-    ghost keeps = { λ r. KeepsPromises r };
-
-    ghost keeps_named = { λ r. KeepsNamed r };
-
-    ghost compares = { λ budget text source out note status. KeepsComparison budget text source out note status };
-
-    fn run<S: Source, O: Sink, N: Sink>(
-        &self,
-        alloc: Global,
-        words: &Vec<String>,
-        source: &mut S,
-        out: &mut O,
-        note: &mut N,
-    ) -> Status {
-        chain_app::run_telling(alloc, words, source, out, note, self.tell)
+/// The same, by the second format.
+fn guide_second<F: KnownFormat, W: Outside, S: Recalls, O: Sink, N: Retells, R: Rereads, T: Tell>(
+    alloc: Global,
+    second: NetFormat,
+    words: &Vec<String>,
+    outside: &mut W,
+    source: &mut S,
+    out: &mut O,
+    note: &mut N,
+    reader: &R,
+    tell: &T,
+) -> Status
+    ensures { IsGuided (promised_by KeepsPromises KeepsNamed (KeepsComparison (pair_of F.named second)))
+        (front_run (spelled words.now)
+        (files_before_after W.holds W.faults outside.old outside.new)
+        (before_after S.left S.faults source.old source.new)
+        (before_after O.written O.faults out.old out.new)
+        (before_after N.written N.faults note.old note.new)
+        result) }
+{
+    match second {
+        NetFormat::Blif => guide_pair::<F, InBlif, W, S, O, N, R, T>(
+            alloc, words, outside, source, out, note, reader, tell,
+        ),
+        NetFormat::Bench => guide_pair::<F, InBench, W, S, O, N, R, T>(
+            alloc, words, outside, source, out, note, reader, tell,
+        ),
+        NetFormat::Aiger => guide_pair::<F, InAiger, W, S, O, N, R, T>(
+            alloc, words, outside, source, out, note, reader, tell,
+        ),
     }
+}
 
-    fn run_named<S: Source, O: Sink, N: Sink>(
-        &self,
-        alloc: Global,
-        words: &Vec<String>,
-        source: &mut S,
-        out: &mut O,
-        note: &mut N,
-    ) -> Status {
-        run_named(alloc, words, source, out, note, self.tell)
+/// The same, by both formats.
+fn guide_formats<W: Outside, S: Recalls, O: Sink, N: Retells, R: Rereads, T: Tell>(
+    alloc: Global,
+    formats: FormatPair,
+    words: &Vec<String>,
+    outside: &mut W,
+    source: &mut S,
+    out: &mut O,
+    note: &mut N,
+    reader: &R,
+    tell: &T,
+) -> Status
+    ensures { IsGuided (promised_by KeepsPromises KeepsNamed (KeepsComparison formats)) (front_run (spelled words.now)
+        (files_before_after W.holds W.faults outside.old outside.new)
+        (before_after S.left S.faults source.old source.new)
+        (before_after O.written O.faults out.old out.new)
+        (before_after N.written N.faults note.old note.new)
+        result) }
+{
+    let second = formats.second;
+    match formats.first {
+        NetFormat::Blif => guide_second::<InBlif, W, S, O, N, R, T>(
+            alloc, second, words, outside, source, out, note, reader, tell,
+        ),
+        NetFormat::Bench => guide_second::<InBench, W, S, O, N, R, T>(
+            alloc, second, words, outside, source, out, note, reader, tell,
+        ),
+        NetFormat::Aiger => guide_second::<InAiger, W, S, O, N, R, T>(
+            alloc, second, words, outside, source, out, note, reader, tell,
+        ),
     }
+}
 
-    #[tactic(auto, using(crate::proofs::Comparing::comparing))]
-    fn compare<S: Source, O: Sink, N: Sink>(
-        &self,
-        alloc: Global,
-        budget: u32,
-        text: &[u8],
-        source: &mut S,
-        out: &mut O,
-        note: &mut N,
-    ) -> Status {
-        let job = AtOnce(EquivWith {
-            first: text,
-            budget,
-            solver: PhantomData::<Cdcl>,
-            tell: self.tell,
-        });
-        perform(alloc, &job, source, out, note)
+/// Guides a run of `improve` over AIGER.
+fn guide_aiger<W: Outside, S: Recalls, O: Sink, N: Retells, R: Rereads, T: Tell>(
+    alloc: Global,
+    words: &Vec<String>,
+    outside: &mut W,
+    source: &mut S,
+    out: &mut O,
+    note: &mut N,
+    reader: &R,
+    tell: &T,
+) -> Status
+    ensures { IsGuided (promised_by KeepsAiger KeepsAiger (KeepsComparison blif_pair)) (front_run (spelled words.now)
+        (files_before_after W.holds W.faults outside.old outside.new)
+        (before_after S.left S.faults source.old source.new)
+        (before_after O.written O.faults out.old out.new)
+        (before_after N.written N.faults note.old note.new)
+        result) }
+{
+    let program = OverAiger { tell };
+    guide(alloc, &program, words, outside, source, out, note, reader)
+}
+
+/// Guides a run over the formats that are asked for.
+fn guide_asked<W: Outside, S: Recalls, O: Sink, N: Retells, R: Rereads, T: Tell>(
+    alloc: Global,
+    asked: FormatsAsked,
+    words: &Vec<String>,
+    outside: &mut W,
+    source: &mut S,
+    out: &mut O,
+    note: &mut N,
+    reader: &R,
+    tell: &T,
+) -> Status
+    ensures { IsGuided (promises_of asked) (front_run (spelled words.now)
+        (files_before_after W.holds W.faults outside.old outside.new)
+        (before_after S.left S.faults source.old source.new)
+        (before_after O.written O.faults out.old out.new)
+        (before_after N.written N.faults note.old note.new)
+        result) }
+{
+    match asked {
+        FormatsAsked::Own => guide_pair::<InBlif, InBlif, W, S, O, N, R, T>(
+            alloc, words, outside, source, out, note, reader, tell,
+        ),
+        FormatsAsked::ImproveAiger => {
+            guide_aiger(alloc, words, outside, source, out, note, reader, tell)
+        }
+        FormatsAsked::Compare(formats) => guide_formats(
+            alloc, formats, words, outside, source, out, note, reader, tell,
+        ),
     }
 }
 
 /// Runs the command that the words ask for: over the files that they name, or else over `source` and `out`. A report,
 /// and one error line if there is no answer, go to `note`; after the error line comes one for people. Words that ask
 /// for help get a page. Who is told of the progress has no say in any of this.
+#[tactic(auto, using(crate::proofs::Fronting::fronting))]
 pub fn serve<W: Outside, S: Recalls, O: Sink, N: Retells, R: Rereads, T: Tell>(
     alloc: Global,
     words: &Vec<String>,
@@ -92,13 +194,24 @@ pub fn serve<W: Outside, S: Recalls, O: Sink, N: Retells, R: Rereads, T: Tell>(
     reader: &R,
     tell: &T,
 ) -> Status
-    ensures { IsGuided (promised_by KeepsPromises KeepsNamed KeepsComparison) (front_run (spelled words.now)
+    ensures { IsFronted (front_run (spelled words.now)
         (files_before_after W.holds W.faults outside.old outside.new)
         (before_after S.left S.faults source.old source.new)
         (before_after O.written O.faults out.old out.new)
         (before_after N.written N.faults note.old note.new)
         result) }
 {
-    let strict = Strict { tell };
-    guide(alloc, &strict, words, outside, source, out, note, reader)
+    let found = match read_formats(alloc, words) {
+        Ok(found) => found,
+        Err(_) => return report_memory(note),
+    };
+    let asked = found.asked;
+    let Some(plain) = &found.words else {
+        return guide_asked(
+            alloc, asked, words, outside, source, out, note, reader, tell,
+        );
+    };
+    guide_asked(
+        alloc, asked, plain, outside, source, out, note, reader, tell,
+    )
 }

@@ -11,6 +11,7 @@ use Rattle.file_io.specs.Files.{FilesState, IsUnchanged, Fails}
 use Rattle.file_io.specs.Settling.{Settles}
 use Rattle.file_io.specs.Served.{Pass, Does}
 use Rattle.file_io.specs.ServedLaws.{still}
+use Rattle.front_formula.specs.Accompanied.{IsAccompanied}
 use Rattle.front_formula.specs.Logged.{IsAfter, IsSkipped, IsLogged}
 
 pub skipped : (ended : Status) (state : FilesState) (source out note : PortState) →
@@ -63,3 +64,45 @@ logged name answers logs old created answered after_logs new source middle sourc
     })
 
 pub ruleset logging = (common_steps, no_log, logged)
+
+-- ---- answers with a file that is written before them
+
+pub no_text : (name reason : List ℕ) (texts answers : Does) (old new : FilesState) (source out note note' : PortState)
+    (status : Status) → Fails Create old new → Writes note note' (fault_line Create name reason) →
+    status ≡ fault_status Create →
+    IsAccompanied (Some name) texts answers (old, new) (source, source) (out, out) (note, note') status
+no_text name reason texts answers old new source out note note' status fails writes is = inl (
+  record {
+    failed = record { fails = fails; reason = reason; on_note = writes; status_is = is };
+    on_source = refl;
+  },
+  refl,
+)
+
+pub accompanied : (name : List ℕ) (texts answers : Does) (old created written answered new : FilesState)
+    (source middle source' : PortState) (out : Pass) (draft draft' note between later note' : PortState)
+    (first ended status : Status) →
+    IsUnchanged old created → IsEmpty draft.bytes → texts (created, written) (source, middle) (draft, draft') (note, between) first →
+    IsAfter first answers (written, answered) (middle, source') out (between, later) ended →
+    Settles name ended draft'.bytes (answered, new) (later, note') status →
+    IsAccompanied (Some name) texts answers (old, new) (source, source') out (note, note') status
+accompanied name texts answers old created written answered new source middle source' out draft draft' note between later
+    note' first ended status unchanged empty text answer settles =
+    inr (record {
+      created = created;
+      written = written;
+      answered = answered;
+      draft = (draft, draft');
+      middle = middle;
+      between = between;
+      later = later;
+      first = first;
+      ended = ended;
+      unchanged = unchanged;
+      empty = empty;
+      text = text;
+      answer = answer;
+      settles = settles;
+    })
+
+pub ruleset accompanying = (common_steps, no_text, accompanied)

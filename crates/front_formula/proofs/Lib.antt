@@ -1,4 +1,6 @@
 pub mod Counting
 pub mod Drafts
+pub mod Options
+pub mod Pairs
 pub mod Performing
 pub mod Runs

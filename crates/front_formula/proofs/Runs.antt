@@ -16,13 +16,13 @@ use Rattle.file_words.specs.declared.line.FileLine.{FileLine}
 use Rattle.file_words.specs.Sorting.{Line, file_line}
 use Rattle.file_words.specs.Lines.{line_value}
 use Rattle.front_core.specs.Asked.{IsNotPlain, name_in, first_in}
-use Rattle.front_core.specs.Front.{Promises, front_run, Ending, IsEnding}
+use Rattle.front_core.specs.Front.{Promises, front_run}
 use Rattle.cmd_formula.specs.declared.words.FormulaWords.{FormulaWords}
 use Rattle.cmd_formula.specs.WordValues.{asked_value}
 use Rattle.cmd_formula.specs.Words.{Asked, part_or_first}
 use Rattle.cmd_formula.specs.FormulaReport.{formula_task, log_task}
 use Rattle.front_formula.specs.FormulaAsked.{AsksForPart, names_formula, part_asked, fits}
-use Rattle.front_formula.specs.FormulaRuns.{Performs, reads_line, IsPartWritten, IsFormulaRun, IsServedBy, IsServed}
+use Rattle.front_formula.specs.FormulaRuns.{Performs, reads_line, IsPartWritten, IsFormulaRun, IsServedOther, IsServedBy, IsServed}
 use Rattle.front_formula.specs.Logged.{IsLogged}
 
 -- ---- no part
@@ -183,7 +183,7 @@ formula_run p words named files source out note status is holds run =
 
 pub other_run : (p : Promises) (words : List (List ℕ)) (named : Bool) (files : Files) (source out note : Pass)
     (status : Status) → named ≡ names_formula words → named ≡ false →
-    ((ending : Ending) × IsEnding p (front_run words files source out note status) ending) →
+    IsServedOther p (front_run words files source out note status) →
     IsServed p (front_run words files source out note status)
 other_run p words named files source out note status is isnt run =
     subst (λ (b : Bool). IsServedBy b p (front_run words files source out note status)) (sym isnt ∙ is) run

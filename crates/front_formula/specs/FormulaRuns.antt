@@ -1,5 +1,5 @@
 -- How a run ends of a front that writes formulas too.
-use Rattle.std.specs.Prelude.{◌⊎◌, [], Bool, true, false}
+use Rattle.std.specs.Prelude.{◌⊎◌, ℕ, [], Bool, true, false}
 use Rattle.frame_core.specs.declared.status.Status.{Status}
 use Rattle.frame_core.specs.declared.status.Status.TheVariants.{Usage, Memory}
 use Rattle.frame_core.specs.Reported.{usage, memory}
@@ -9,11 +9,13 @@ use Rattle.frame_core.specs.Promise.{CommandPromise}
 use Rattle.file_io.specs.Served.{Pass, Does, IsApart, IsDelivered, IsRead}
 use Rattle.file_words.specs.Sorting.{Line}
 use Rattle.front_core.specs.Asked.{IsNotPlain, name_in, first_in}
-use Rattle.front_core.specs.Front.{Promises, FrontRun, Reports, Ending, IsEnding}
+use Rattle.front_core.specs.Front.{Promises, FrontRun, Reports, Ending, IsEnding, IsOutOfMemory}
 use Rattle.cmd_formula.specs.Words.{Asked, part_or_first}
 use Rattle.cmd_formula.specs.FormulaReport.{formula_task, log_task}
 use Rattle.front_formula.specs.FormulaAsked.{AsksForPart, names_formula}
 use Rattle.front_formula.specs.Logged.{IsLogged}
+use Rattle.front_formula.specs.MiterAsked.{AsksForMiter}
+use Rattle.front_formula.specs.MiterRuns.{IsMiterServed}
 
 -- a run of a command with all that commands promise, whatever its words are
 abbrev pub Performs : Task → Pass → Pass → Pass → Status → Type 0
@@ -46,11 +48,19 @@ pub record IsPartless (r : FrontRun) : Type 0 where
 abbrev pub IsFormulaRun : FrontRun → Type 0
 IsFormulaRun r = IsPartServed r ⊎ (IsPartless r ⊎ Reports memory Memory r)
 
--- Words whose first is `formula`, which are no command line of the program, ask for a formula; any others are the
--- program's.
+-- The words don't ask for a miter, and are served by the program's front.
+pub record IsWithoutMiter (p : Promises) (r : FrontRun) : Type 0 where
+  pub none : (line : Line) (budget : ℕ) → AsksForMiter r.words line budget → ⊥
+  pub served : (ending : Ending) × IsEnding p r ending
+
+-- Words of the program, or of `equiv` with `--formula`; or memory ran out before the words were read.
+abbrev pub IsServedOther : Promises → FrontRun → Type 0
+IsServedOther p r = IsMiterServed p r ⊎ (IsWithoutMiter p r ⊎ IsOutOfMemory r)
+
+-- Words whose first is `formula`, which are no command line of the program, ask for a formula.
 abbrev pub IsServedBy : Bool → Promises → FrontRun → Type 0
 IsServedBy true p r = IsNotPlain r.words × IsFormulaRun r
-IsServedBy false p r = (ending : Ending) × IsEnding p r ending
+IsServedBy false p r = IsServedOther p r
 
 abbrev pub IsServed : Promises → FrontRun → Type 0
 IsServed p r = IsServedBy (names_formula r.words) p r

@@ -43,7 +43,7 @@ pub(crate) fn part_asked(alloc: Global, line: &FileLine) -> Result<Option<Formul
 }
 
 /// Whether the first of some files is one that isn't standard input.
-fn reads_plain_file(files: &[String]) -> bool
+pub(crate) fn reads_plain_file(files: &[String]) -> bool
     ensures { result ≡ spec.is_plain_file (first_in (map string_bytes files.now)) }
 {
     let Some((file, _)) = files.split_first() else {

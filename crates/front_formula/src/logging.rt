@@ -9,9 +9,9 @@ use frame_core::Status;
 use port_io::{Sink, Source};
 use std::alloc::Global;
 
-/// Writes a log, if the answer that it belongs to was written.
+/// Does the second part of some work, if the first is done.
 #[tactic(auto, using(crate::proofs::Drafts::after))]
-fn log_after<L: Work, W: Outside, S: Source, O: Sink, N: Sink>(
+pub(crate) fn log_after<L: Work, W: Outside, S: Source, O: Sink, N: Sink>(
     alloc: Global,
     logs: &L,
     ended: Status,

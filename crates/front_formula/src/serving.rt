@@ -11,6 +11,7 @@ ghost use Rattle.front_formula.specs.FormulaRuns.{IsPartWritten, IsFormulaRun, I
 
 use crate::asking::{fits, log_of, names_formula, part_asked};
 use crate::logging::Logging;
+use crate::mitering::serve_program;
 use crate::tasks::{Formula, Log};
 use cmd_formula::FormulaWords;
 use file_io::{Outside, Reading, write_output};
@@ -113,8 +114,8 @@ fn serve_formula<W: Outside, S: Source, O: Sink, N: Sink>(
     serve_line(alloc, line, outside, source, out, note)
 }
 
-/// Reads words that may name files: where the first is `formula`, it writes the formula of a part of a certificate, and
-/// any others it serves as `front_core` does.
+/// Reads words that may name files: where the first is `formula`, it writes the formula of a part of a certificate.
+/// Where `equiv` has `--formula`, it writes the miter besides the answer. Any others it serves as `front_core` does.
 #[tactic(auto, using(crate::proofs::Runs::runs))]
 pub fn serve<P: Program, W: Outside, S: Source, O: Sink, N: Sink>(
     alloc: Global,
@@ -135,5 +136,5 @@ pub fn serve<P: Program, W: Outside, S: Source, O: Sink, N: Sink>(
     if names_formula(words) {
         return serve_formula(alloc, words, outside, source, out, note);
     }
-    front_core::serve::<P, W, S, O, N>(alloc, program, words, outside, source, out, note)
+    serve_program::<P, W, S, O, N>(alloc, program, words, outside, source, out, note)
 }

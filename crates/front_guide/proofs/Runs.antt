@@ -8,7 +8,7 @@ use Rattle.file_io.specs.Files.{Files}
 use Rattle.file_io.specs.Served.{Pass}
 use Rattle.front_core.specs.Asked.{IsNotPlain}
 use Rattle.front_core.specs.Front.{Promises, front_run}
-use Rattle.front_formula.specs.FormulaRuns.{IsServed}
+use Rattle.front_large.specs.LargeRuns.{IsServed}
 use Rattle.front_guide.specs.Words.{has_help_word}
 use Rattle.front_guide.specs.Guided.{IsPageStatus, IsGuided, is_found}
 

@@ -7,7 +7,7 @@ use Rattle.frame_core.specs.Outside.{PortState, Writes}
 use Rattle.file_io.specs.Served.{Pass}
 use Rattle.front_core.specs.Asked.{IsNotPlain}
 use Rattle.front_core.specs.Front.{Promises, FrontRun, front_run}
-use Rattle.front_formula.specs.FormulaRuns.{IsServed}
+use Rattle.front_large.specs.LargeRuns.{IsServed}
 use Rattle.front_guide.specs.Words.{has_help_word}
 
 -- A page was written to the output: all of it, or a call failed.

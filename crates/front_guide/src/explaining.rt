@@ -5,6 +5,7 @@ use command_line::{Command, Format, read_words};
 use error_help::{Input, Inputs, Subject, push_explained};
 use file_words::{FileLine, is_standard, read_line};
 use frame_core::Status;
+use front_large::{Large, large_in};
 use help_text::push_wrong_words;
 use std::alloc::{AllocError, Global};
 
@@ -132,15 +133,28 @@ fn push_of_inputs<'a>(
     Ok(())
 }
 
+/// What a large question reads; None if words ask for none.
+fn large_subject(alloc: Global, words: &Vec<String>) -> Option<Subject> {
+    match large_in(alloc, words) {
+        Ok(Some(Large::Part(_))) => Some(Subject::Tables),
+        Ok(Some(Large::Steps(_))) => Some(Subject::Certificate),
+        Ok(Some(Large::Levels(_))) => Some(Subject::Depth),
+        Ok(None) | Err(_) => None,
+    }
+}
+
 /// What the command of a line reads; None if its words are none of a command.
-fn line_subject(words: &Vec<String>) -> Option<Subject> {
+fn line_subject(alloc: Global, words: &Vec<String>) -> Option<Subject> {
     let (name, _) = words.split_first()?;
     if name.as_bytes() == b"formula".as_slice() {
         return Some(Subject::Certificate);
     }
+    if name.as_bytes() == b"equiv".as_slice() {
+        return Some(Subject::Pair);
+    }
     match read_words(words) {
         Ok(command) => Some(subject_of(&command)),
-        Err(_) => None,
+        Err(_) => large_subject(alloc, words),
     }
 }
 
@@ -154,7 +168,7 @@ fn push_of_line<R: Rereads>(
     error_line: &[u8],
     reader: &R,
 ) -> Result<(), AllocError> {
-    let Some(subject) = line_subject(&line.words) else {
+    let Some(subject) = line_subject(alloc, &line.words) else {
         return Ok(());
     };
     let bytes = file_bytes(alloc, reader, line.operands.first());

@@ -17,7 +17,7 @@ use command_line::read_words;
 use file_io::Outside;
 use frame_core::Status;
 use front_core::Program;
-use front_formula::serve;
+use front_large::serve;
 use help_text::asked_page;
 use port_io::{Sink, WriteFault, write_all};
 use std::alloc::Global;

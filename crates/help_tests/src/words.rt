@@ -76,6 +76,10 @@ const WRONG: &[(&str, &str)] = &[
         "batsokemi: -o and --log name one file (batsokemi help formula)\n",
     ),
     (
+        "equiv --log l a b",
+        "batsokemi: equiv needs --formula with a value: the name of a file (batsokemi help equiv)\n",
+    ),
+    (
         "gen x",
         "batsokemi: gen reads no file, and 'x' is one more (batsokemi help gen)\n",
     ),

@@ -47,9 +47,9 @@ pub(crate) fn purpose_of(command: CommandName) -> &'static [u8] {
         CommandName::Agree =>
             b"truth tables and a chain -> whether the chain has every specified value",
         CommandName::Improve =>
-            b"a netlist (BLIF, BENCH) -> an equivalent one with no more gates, and a report",
+            b"a netlist (BLIF, BENCH, AIGER) -> an equivalent one with no more gates, and a report",
         CommandName::Equiv =>
-            b"two netlists (BLIF) -> equal, with an LRAT refutation; or a counterexample",
+            b"two netlists -> equal, with an LRAT refutation; or a counterexample",
         CommandName::Gen => b"a number -> a BLIF netlist of that many blocks",
     }
 }

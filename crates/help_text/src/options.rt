@@ -57,6 +57,11 @@ pub(crate) struct Row {
     pub(crate) says: &'static [u8],
 }
 
+/// The most bytes of a certificate that are read if no number is named, and the greatest number.
+const MOST_OF_CERTIFICATE: u32 = 268_435_456;
+
+const MOST_OF_LONG: u32 = 2_147_483_647;
+
 const YES_OR_NO: Allowed = Allowed::Words(&[b"yes", b"no"]);
 
 const METHODS: Allowed = Allowed::Words(&[
@@ -91,7 +96,7 @@ const CERTIFICATE: Row = Row {
     value: b"FILE",
     allowed: Allowed::File,
     default: Default::Nothing,
-    says: b"the whole answer goes to FILE, and only the chain and the verdict are written",
+    says: b"the whole answer goes to FILE, and only its chain and verdict, or its result, are written",
 };
 
 const BASIS: Row = Row {
@@ -150,6 +155,22 @@ const LEAST_DEPTH: Row = Row {
     says: b"also the fewest levels among the chains of the fewest steps; only with --method fence",
 };
 
+const SIZE: Row = Row {
+    name: b"--size",
+    value: b"R",
+    allowed: Allowed::Number(0, MOST_STEPS),
+    default: Default::Nothing,
+    says: b"only a part of this size is searched, and what a certificate has for it is written",
+};
+
+const PART: Row = Row {
+    name: b"--part",
+    value: b"P",
+    allowed: Allowed::Number(1, MOST_NUMBER),
+    default: Default::Number(1),
+    says: b"the part of --size; a size has one, and by fence and strong-fence one for each fence",
+};
+
 const SYNTH: &[Row] = &[
     BASIS,
     CHOICE,
@@ -157,6 +178,8 @@ const SYNTH: &[Row] = &[
     CONFLICTS,
     SYNTH_EFFORT,
     LEAST_DEPTH,
+    SIZE,
+    PART,
     OUTPUT,
     CERTIFICATE,
 ];
@@ -168,6 +191,13 @@ const RECHECK: &[Row] = &[
         allowed: YES_OR_NO,
         default: Default::Word(b"no"),
         says: b"the certificate is one of `--least-depth yes`",
+    },
+    Row {
+        name: b"--most-bytes",
+        value: b"N",
+        allowed: Allowed::Number(0, MOST_OF_LONG),
+        default: Default::Number(MOST_OF_CERTIFICATE),
+        says: b"the most bytes that are read; the memory is that of one formula and its live clauses",
     },
     OUTPUT,
 ];
@@ -185,7 +215,7 @@ const FORMULA: &[Row] = &[
         value: b"P",
         allowed: Allowed::Number(0, MOST_NUMBER),
         default: Default::Number(1),
-        says: b"the part of the size; with all methods but fence there is one",
+        says: b"the part of the size; only with fence and strong-fence are there several",
     },
     Row {
         name: b"--log",
@@ -219,7 +249,7 @@ const IMPROVE: &[Row] = &[
         value: b"N",
         allowed: Allowed::Number(0, MOST_EFFORT),
         default: Default::Effort,
-        says: b"rounds of moves and walks that may keep the size: more may save gates, and take longer",
+        says: b"further stages of walks over random windows: more may save gates, and take longer",
     },
     Row {
         name: b"--seed",
@@ -233,7 +263,7 @@ const IMPROVE: &[Row] = &[
         value: b"BASIS",
         allowed: Allowed::Basis,
         default: Default::Word(b"all"),
-        says: b"operators that new gates may have; for BENCH `bench` or a subset of it",
+        says: b"operators that new gates may have; for BENCH a subset of `bench`, for AIGER all but 0110 and 1001",
     },
     METHOD,
     Row {
@@ -253,9 +283,9 @@ const IMPROVE: &[Row] = &[
     Row {
         name: b"--format",
         value: b"FORMAT",
-        allowed: Allowed::Words(&[b"blif", b"bench"]),
+        allowed: Allowed::Words(&[b"blif", b"bench", b"aiger"]),
         default: Default::Word(b"blif"),
-        says: b"of both netlists; for a file whose name ends with .bench the default is bench",
+        says: b"of both netlists; for a file whose name ends with .bench or .aag the default is bench or aiger",
     },
     OUTPUT,
 ];
@@ -267,6 +297,27 @@ const EQUIV: &[Row] = &[
         allowed: Allowed::Number(1, MOST_CONFLICTS),
         default: Default::Number(DEFAULT_CONFLICTS),
         says: b"conflicts without a result before the answer is `undecided`",
+    },
+    Row {
+        name: b"--formula",
+        value: b"FILE",
+        allowed: Allowed::File,
+        default: Default::Nothing,
+        says: b"the miter goes to FILE in DIMACS; the netlists have to be two BLIF files, since they are read again",
+    },
+    Row {
+        name: b"--log",
+        value: b"FILE",
+        allowed: Allowed::File,
+        default: Default::Nothing,
+        says: b"with --formula: where the netlists are equal, the log goes to FILE as plain LRAT",
+    },
+    Row {
+        name: b"--format",
+        value: b"FORMAT",
+        allowed: Allowed::Words(&[b"blif", b"bench", b"aiger"]),
+        default: Default::Word(b"blif"),
+        says: b"of both files; without it each has that of its name's end: .bench, .aag, and else BLIF",
     },
     OUTPUT,
     CERTIFICATE,

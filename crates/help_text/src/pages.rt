@@ -168,6 +168,9 @@ Tables: the line `inputs N`, then a line for each output with 2^N characters 0, 
 comes first, and x1 is the most significant digit of a row's number. Each line ends with LF, the last one too;
 tools/tables converts hex tables, and lines with CR LF or without the last LF.
 
+With --size R, and by fences with --part P, only this part is searched: what stands in a certificate between
+`size R` and the next size for it, or its chain. `python3 -m batsokemi conquer` makes a certificate of parts.
+
 ";
 
 const BASES: &[u8] = b"
@@ -184,7 +187,7 @@ Example: the sum and the carry of three bits
 const RECHECK: &[u8] = b"batsokemi recheck [OPTION VALUE].. [CERTIFICATE]
 
 Writes the verdict of a certificate of `synth` if and only if the certificate is valid: it builds the formula
-of each size from the tables and checks each line of each refutation. It reads at most 256 MiB.
+of each size from the tables and checks each line of each refutation. It reads at most 256 MiB, or --most-bytes.
 
 ";
 
@@ -197,7 +200,8 @@ const FORMULA: &[u8] = b"batsokemi formula [OPTION VALUE].. [CERTIFICATE] [-o FI
 
 Writes the formula of a part of a certificate of `synth` in DIMACS, for other programs, and with --log the log
 of the part as plain LRAT; the ids of its hints are the numbers of the clauses. A part is a subproblem of a size:
-one of many with the method fence, and all of it with the others. The certificate is valid, as for `recheck`.
+one of many with fence and strong-fence, and all of it with the others. The certificate is valid, as for
+`recheck`.
 
 ";
 
@@ -220,8 +224,9 @@ Example: OR is not XOR
 
 const IMPROVE: &[u8] = b"batsokemi improve [OPTION VALUE].. [NETLIST] [-o NETLIST]
 
-Reads a netlist in BLIF or BENCH and writes an equivalent one of the same format with no more gates, by
-exact resynthesis of windows of up to --cap gates. Its report goes to standard error:
+Reads a netlist in BLIF, BENCH or AIGER (its ASCII form) and writes an equivalent one of the same format
+with no more gates, by exact resynthesis of windows of up to --cap gates. For AIGER the default of --basis
+is u2: AND gates with complements. Its report goes to standard error:
 
   gates A -> B       two-input gates before and after: a wider .names counts as several, a copy or a
                      constant as none
@@ -230,8 +235,8 @@ exact resynthesis of windows of up to --cap gates. Its report goes to standard e
   settled            no other listed window up to the cap has a smaller implementation
   stopped            the limit of --rounds was reached first
 
-Nothing is written before the end. A smaller --cap ends sooner. An --effort of 0 still means 3 rounds of
-moves up to 1,000 gates, and none below 6 gates.
+Nothing is written before the end. A smaller --cap ends sooner. With an --effort of 0 there is one stage of
+walks, and none below 6 gates.
 
 ";
 
@@ -242,8 +247,9 @@ Example:
 
 const EQUIV: &[u8] = b"batsokemi equiv [OPTION VALUE].. FIRST SECOND
 
-Compares two BLIF netlists of the same inputs, outputs and latches: outputs and next states under every
-assignment of inputs and latches. Two files, or one text with both of which the first ends with `.end`.
+Compares two netlists of the same inputs, outputs and latches: outputs and next states under every
+assignment of inputs and latches. Two files, each in BLIF, BENCH or AIGER, or one BLIF text with both, of
+which the first ends with `.end`.
 
   equal              they are equivalent; an LRAT refutation of their miter follows, and `done`
   differ output Y    output Y differs (or `differ latch Q`) where the inputs and latches have the values
@@ -253,11 +259,15 @@ assignment of inputs and latches. Two files, or one text with both of which the 
 The error `DifferentInterface`: inputs, outputs and clocks, in order, and each latch's output, control and
 initial value must be the same.
 
+With --formula the miter of two files is written besides, for other programs, and with --log the log of
+`equal`; the ids of its hints are the numbers of the clauses. The netlists are then compared once more.
+
 ";
 
 const EQUIV_EXAMPLE: &[u8] = b"
-Example:
+Examples:
   batsokemi equiv in.blif out.blif
+  batsokemi equiv --formula two.cnf --log two.lrat in.blif out.blif
 ";
 
 const GEN: &[u8] = b"batsokemi gen --blocks N [--run improve]

@@ -145,12 +145,33 @@ const BENCH: &[u8] = b"Netlists: BENCH
 
 The format of the ISCAS benchmark files, read and written by improve --format bench, and where the name of the
 file that is read ends with .bench. Keys may be upper or lower
-case, lines may come in any order, and a comment begins with #. tools/blif writes BENCH as BLIF for equiv.
+case, lines may come in any order, and a comment begins with #.
 
   INPUT(a)
   INPUT(b)
   OUTPUT(y)
   y = XOR(a, b)
+";
+
+const AIGER: &[u8] = b"Netlists: AIGER
+
+  aag M I L O A                   the greatest variable; how many inputs, latches, outputs and gates
+  LITERAL                         an input, on a line of its own; then the latches:
+  LITERAL NEXT [0, 1 or LITERAL]  its next state and its initial value: 0, 1, or either; then the outputs:
+  LITERAL                         and the gates, each AND of two literals:
+  LITERAL LITERAL LITERAL
+  i0 NAME                         a name of an input; so l0 of a latch, o0 of an output
+  c                               a comment follows
+
+The ASCII form of AIGER 1.9, read and written by improve --format aiger, and where the name of the file that is
+read ends with .aag; equiv reads it too. A literal is twice a variable, and one more for its complement; 0 and 1
+are the constants. `aigtoaig` of the AIGER tools turns the binary form into this one.
+
+  aag 3 2 0 1 1
+  2
+  4
+  7
+  6 2 4
 ";
 
 const PAIRS: &[u8] = b"Netlists compared
@@ -160,7 +181,7 @@ const PAIRS: &[u8] = b"Netlists compared
          | \"differ \" ( \"output \" | \"latch \" ) name LF \"at \" ( ( \"0\" | \"1\" )+ | \"-\" ) LF
          | \"undecided\" LF log-line* \"done\" LF
 
-Both netlists are BLIF and have one interface: the same inputs, outputs and clocks in the same order, and latches
+Both netlists have one interface: the same inputs, outputs and clocks in the same order, and latches
 that agree in number, order, output, control and initial value.
 
   equal      the outputs and next states are the same under each assignment; the lines refute the miter  status 0
@@ -218,6 +239,10 @@ const TOPICS: &[Topic] = &[
     Topic {
         name: b"bench",
         page: BENCH,
+    },
+    Topic {
+        name: b"aiger",
+        page: AIGER,
     },
     Topic {
         name: b"pairs",

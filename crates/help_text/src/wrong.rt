@@ -38,8 +38,8 @@ enum Clash<'a> {
     NotOfBench(&'a [u8]),
     /// `-o` and this option name one file.
     OneFile(&'static [u8]),
-    /// `--log -`.
-    LogToOutput,
+    /// This option names standard output.
+    ToOutput(&'static [u8]),
     /// `--log` without a certificate that is a file.
     LogOfInput,
 }
@@ -179,7 +179,7 @@ fn formula_clash(words: &[String]) -> Option<Clash<'_>> {
         return None;
     };
     if log == b"-".as_slice() {
-        return Some(Clash::LogToOutput);
+        return Some(Clash::ToOutput(b"--log"));
     }
     if is_one_file(b"--log", words) {
         return Some(Clash::OneFile(b"--log"));
@@ -190,12 +190,44 @@ fn formula_clash(words: &[String]) -> Option<Clash<'_>> {
     }
 }
 
+/// What the files of a miter need.
+fn equiv_clash(words: &[String]) -> Option<Clash<'_>> {
+    let Some(row) = row_named(CommandName::Equiv, b"--formula") else {
+        return None;
+    };
+    let Some(formula) = value_of(b"--formula", words) else {
+        return match value_of(b"--log", words) {
+            Some(_) => Some(Clash::Needed(row)),
+            None => None,
+        };
+    };
+    if formula == b"-".as_slice() {
+        return Some(Clash::ToOutput(b"--formula"));
+    }
+    if is_one_file(b"--formula", words) {
+        return Some(Clash::OneFile(b"--formula"));
+    }
+    if has_value(b"--log", b"-", words) {
+        return Some(Clash::ToOutput(b"--log"));
+    }
+    if is_one_file(b"--log", words) {
+        return Some(Clash::OneFile(b"--log"));
+    }
+    None
+}
+
 /// What options of `synth` ask of each other.
 fn synth_clash(words: &[String]) -> Option<Clash<'_>> {
     if has_value(b"--least-depth", b"yes", words) && !has_value(b"--method", b"fence", words) {
         return Some(Clash::NotByFence);
     }
-    None
+    if value_of(b"--part", words).is_none() || value_of(b"--size", words).is_some() {
+        return None;
+    }
+    match row_named(CommandName::Synth, b"--size") {
+        Some(row) => Some(Clash::Needed(row)),
+        None => None,
+    }
 }
 
 /// What `gen` needs.
@@ -219,7 +251,8 @@ fn first_clash(command: CommandName, words: &[String]) -> Option<Clash<'_>> {
         CommandName::Improve => improve_clash(words),
         CommandName::Gen => gen_clash(words),
         CommandName::Formula => formula_clash(words),
-        CommandName::Recheck | CommandName::Agree | CommandName::Equiv => None,
+        CommandName::Equiv => equiv_clash(words),
+        CommandName::Recheck | CommandName::Agree => None,
     }
 }
 
@@ -310,8 +343,12 @@ fn push_clash(text: &mut Vec<u8>, command: CommandName, clash: Clash) -> Result<
                 Part::Text(b" name one file"),
             ],
         ),
-        Clash::LogToOutput => text.extend_from_slice(
-            b"--log names a file, and not standard output",
+        Clash::ToOutput(name) => push_parts(
+            text,
+            &[
+                Part::Text(name),
+                Part::Text(b" names a file, and not standard output"),
+            ],
         ),
         Clash::LogOfInput => text.extend_from_slice(
             b"with --log the certificate is read twice: it has to be a file",

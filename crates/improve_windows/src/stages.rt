@@ -1,15 +1,11 @@
 //! The stages of moves: when each ends, and how much work it does. 100,000 units take about a millisecond.
 
-/// The work of the first stage for each gate, up to `MOST_GATES_OF_SMALL_NET` of them, and for each further one.
-const FIRST_WORK: u64 = 210_000;
-
-const FURTHER_WORK: u64 = 30_000;
+/// What the first stage does for each gate: for those up to a number of them, for the further ones up to another, and
+/// for all others.
+const FIRST_WORK: [(u64, u64); 3] = [(100, 400_000), (3_000, 150_000), (u64::MAX, 30_000)];
 
 /// The first stage ends when this part of its work was done without a gain.
-const PATIENCE_PART: u64 = 3;
-
-/// The most gates of a small net.
-const MOST_GATES_OF_SMALL_NET: u64 = 3_000;
+const PATIENCE_PART: u64 = 2;
 
 /// The work of one unit of effort for each gate.
 const EFFORT_WORK: u64 = 50_000;
@@ -17,17 +13,20 @@ const EFFORT_WORK: u64 = 50_000;
 /// A net of fewer gates gets the work of so many.
 const LEAST_GATES: u64 = 8;
 
-/// The work of the first stage of a net of so many gates.
+/// The work of the first stage for each gate, in a net of so many.
 pub(crate) fn first_work(gates: usize) -> u64 {
     let gates = (gates as u64).max(LEAST_GATES);
-    let few = gates.min(MOST_GATES_OF_SMALL_NET);
-    let further = gates.saturating_sub(few);
-    FIRST_WORK
-        .saturating_mul(few)
-        .saturating_add(FURTHER_WORK.saturating_mul(further))
+    let mut work = 0u64;
+    let mut begin = 0u64;
+    for (end, each) in FIRST_WORK {
+        let count = gates.min(end).saturating_sub(begin);
+        work = work.saturating_add(each.saturating_mul(count));
+        begin = end;
+    }
+    work / gates
 }
 
-/// How much of the work of a first stage may be without a gain.
+/// How much of that work may be without a gain.
 pub(crate) fn first_patience(gates: usize) -> u64 {
     first_work(gates) / PATIENCE_PART
 }

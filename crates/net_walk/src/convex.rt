@@ -2,7 +2,7 @@
 //! nodes there that lead from the window to an input join it.
 
 use crate::graph::Graph;
-use crate::growing::{LEAST_GATES, MOST_GATES, MOST_INPUTS, Window};
+use crate::growing::{LEAST_GATES, MOST_GATES, Window};
 use crate::loading::in_order;
 use crate::marks::Marks;
 use std::alloc::{AllocError, Global};
@@ -111,7 +111,7 @@ impl Closure {
             }
             if !self.join(alloc, graph, window)? {
                 let gates = window.gates.len();
-                return Ok(gates >= LEAST_GATES && window.input_count() <= MOST_INPUTS);
+                return Ok(gates >= LEAST_GATES && window.input_count() <= window.most_inputs);
             }
             if window.gates.len() > MOST_GATES.saturating_add(MOST_JOINING) {
                 return Ok(false);

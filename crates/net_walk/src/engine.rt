@@ -33,11 +33,17 @@ const MOST_SOURCES: u32 = 16;
 /// The most gates of a net that is walked whole.
 const MOST_WHOLE_GATES: u32 = 1_000;
 
+/// Walks over the whole net do so many times the work of those over windows.
+const WHOLE_SHARE: u64 = 4;
+
 /// So many rows of a larger net are walked, those that failed among them, which are at most half of them.
 const SAMPLED_ROWS: usize = 512;
 
 /// Of larger graphs the last is taken, and not the cheapest.
 const MOST_KEPT_GATES: u32 = 10_000;
+
+/// A graph of fewer gates gets the work of so many.
+const LEAST_GATES: u32 = 8;
 
 /// What a window costs beside its walk.
 const WINDOW_WORK: u64 = 20_000;
@@ -305,10 +311,7 @@ impl NetWalk {
         if sources > MOST_SOURCES || self.graph.size() > MOST_WHOLE_GATES {
             return false;
         }
-        if sources <= FEW_SOURCES {
-            return self.whole_work.saturating_mul(3) <= self.windows_work.saturating_mul(2);
-        }
-        self.whole_work <= self.windows_work
+        self.whole_work <= self.windows_work.saturating_mul(WHOLE_SHARE)
     }
 
     /// One walk: over the whole net where its turn has come, else over a random window.
@@ -320,22 +323,36 @@ impl NetWalk {
         }
     }
 
-    /// Walks until the work is so much in all.
-    pub fn run(&mut self, work: u64) -> Result<(), AllocError> {
-        self.run_while_gaining(work, u64::MAX)
+    /// So much for each gate that there is, and for `LEAST_GATES` of them at least.
+    fn for_gates(&self, work: u64) -> u64 {
+        work.saturating_mul(u64::from(self.graph.size().max(LEAST_GATES)))
     }
 
-    /// Walks until the work is so much in all, or so much was done since the graph last lost a gate.
-    pub fn run_while_gaining(&mut self, work: u64, patience: u64) -> Result<(), AllocError> {
-        let (mut least, mut gained) = (self.graph.size(), self.work());
+    /// Walks until the work is so much in all.
+    pub fn run(&mut self, work: u64) -> Result<(), AllocError> {
         for _walk in 0..work {
+            self.keep_best()?;
+            if self.work() >= work || self.graph.size() == 0 {
+                break;
+            }
+            self.walk_once()?;
+        }
+        Ok(())
+    }
+
+    /// Walks until the work is so much for each gate that there is by then, or `patience` for each since the graph
+    /// last lost one.
+    pub fn run_by_size(&mut self, work: u64, patience: u64) -> Result<(), AllocError> {
+        let (mut least, mut gained) = (self.graph.size(), self.work());
+        for _walk in 0..self.for_gates(work) {
             self.keep_best()?;
             if self.graph.size() < least {
                 least = self.graph.size();
                 gained = self.work();
             }
-            let is_stuck = self.work().saturating_sub(gained) >= patience;
-            if self.work() >= work || self.graph.size() == 0 || is_stuck {
+            let idle = self.work().saturating_sub(gained);
+            let is_over = self.work() >= self.for_gates(work) || idle >= self.for_gates(patience);
+            if is_over || self.graph.size() == 0 {
                 break;
             }
             self.walk_once()?;

@@ -7,11 +7,13 @@ use crate::marks::Marks;
 use rows::{Random, at};
 use std::alloc::{AllocError, Global};
 
-/// The most inputs of a window.
-pub const MOST_INPUTS: u32 = 10;
+/// The most inputs of a window are a random number from this on, and of so many numbers.
+const LEAST_INPUTS: u32 = 6;
+
+const INPUT_NUMBERS: u32 = 6;
 
 /// The most gates that a window grows to.
-pub const MOST_GATES: usize = 30;
+pub const MOST_GATES: usize = 20;
 
 /// A window with fewer gates isn't worth a walk.
 pub const LEAST_GATES: usize = 3;
@@ -31,9 +33,10 @@ const MOST_READERS: u32 = 64;
 /// So many times gates are looked for whose operands are there.
 const FILLINGS: u32 = 10;
 
-/// A window: its gates, the nodes that these read, and the gates that others read.
+/// A window: its gates, the nodes that these read, the gates that others read, and how many inputs it may have.
 #[derive(Drop)]
 pub struct Window {
+    pub most_inputs: u32,
     pub gates: Vec<u32>,
     pub inputs: Vec<u32>,
     pub outputs: Vec<u32>,
@@ -56,6 +59,7 @@ impl Window {
     /// A window without gates.
     pub fn new(alloc: Global) -> Window {
         Window {
+            most_inputs: LEAST_INPUTS,
             gates: Vec::new(alloc),
             inputs: Vec::new(alloc),
             outputs: Vec::new(alloc),
@@ -137,7 +141,7 @@ impl Window {
     /// Adds a random neighbour, of a few that with the fewest inputs. False where these are too many.
     fn grow_by_one(&mut self, graph: &Graph, random: &mut Random) -> Result<bool, AllocError> {
         let mut best = NONE;
-        let mut least = MOST_INPUTS.saturating_add(1);
+        let mut least = self.most_inputs.saturating_add(1);
         for _drawn in 0..DRAWS {
             let node = self.neighbour(graph, random);
             if graph.is_gate(node) && !self.inside.has(node) {
@@ -219,6 +223,7 @@ impl Window {
         root: u32,
         random: &mut Random,
     ) -> Result<(), AllocError> {
+        self.most_inputs = LEAST_INPUTS.saturating_add(random.below(INPUT_NUMBERS));
         self.spread(graph, root, random)?;
         for _filling in 0..FILLINGS {
             if self.gates.len() >= MOST_GATES || !self.fill(graph)? {

@@ -106,9 +106,10 @@ impl Moves {
         self.walk.run(end)
     }
 
-    /// Begins, with so much work at most, and so much without a gain.
+    /// Begins: until the work is so much for each gate that there is by then, or `patience` for each since one was
+    /// saved.
     pub fn begin(&mut self, work: u64, patience: u64) -> Result<(), AllocError> {
-        self.walk.run_while_gaining(work, patience)
+        self.walk.run_by_size(work, patience)
     }
 
     /// A smaller net than the given one that may replace it, if the search has found one. None where it hasn't, or

@@ -1,5 +1,6 @@
-//! How many inputs tables use: `auto` chooses its method by them, so that an input that no output depends on has no say.
-ghost use Rattle.std.specs.Prelude.{◌≡◌, ◌+◌, ◌<◌, ◌≤◌};
+//! How many inputs tables use: `auto` chooses its method by them, so that an input that no output depends on has no
+//! say.
+ghost use Rattle.std.specs.Prelude.{◌≡◌, ◌+◌, ◌<◌};
 ghost use Rattle.tt_core.specs.Words.{specification};
 ghost use Rattle.synth_core.specs.UsedInputs.{is_used as is_used_of, used_inputs as used_inputs_of};
 
@@ -8,7 +9,8 @@ use tt_core::Spec;
 
 /// Whether some output uses input `before` + 1.
 #[tactic(auto, // for the prover
-using(crate::proofs::Used::using_inputs), unfolding(crate::specs::UsedInputs::is_used, crate::specs::UsedInputs::output_uses))]
+using(crate::proofs::Used::using_inputs), // for the prover
+unfolding(crate::specs::UsedInputs::is_used, crate::specs::UsedInputs::output_uses))]
 fn is_used(spec: &Spec, before: u32) -> bool
     requires input { before < spec.now.n }
     requires room { before + 1 < 4294967296 }

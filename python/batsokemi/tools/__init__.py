@@ -5,6 +5,7 @@
   draw       a picture of a chain or a netlist, by Graphviz
   classes    a function of each NPN class
   tabulate   the fewest steps of many functions, each certificate rechecked
+  conquer    the fewest steps of one function, its subproblems at once, also on many machines
   blif       a netlist in BENCH as BLIF
 
 TOOL --help says more. `python3 -m batsokemi TOOL` is the same, and in a checkout `tools/TOOL`; only `tools/tabulate` is
@@ -20,7 +21,7 @@ from importlib import import_module
 
 from ..errors import FormError, UsageError
 
-TOOLS = ('tables', 'export', 'draw', 'classes', 'tabulate', 'blif')
+TOOLS = ('tables', 'export', 'draw', 'classes', 'tabulate', 'conquer', 'blif')
 
 
 def run(tool: str, words: list[str]) -> int:

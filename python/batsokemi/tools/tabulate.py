@@ -6,7 +6,7 @@ a line after a blank or # is ignored. `-` is standard input.
 
   --processes N   the number of processes (the number of processors)
   --keep DIR      keeps the certificates as DIR/NUMBER.chains
-  OPTION VALUE    options of `synth`: --basis, --method, --conflicts, --max
+  OPTION VALUE    options of `synth`: --basis, --method, --conflicts, --max, --effort
 
 It prints a line for each question, in order: a number, the tables and the verdict, separated by tabs; then, on standard
 error, how many questions have which verdict. On a terminal there is a bar, where tqdm is installed.
@@ -34,9 +34,10 @@ def main(words: list[str]) -> int:
     parser.add_argument('--method')
     parser.add_argument('--conflicts', type=int)
     parser.add_argument('--max', type=int, dest='max_steps')
+    parser.add_argument('--effort', type=int)
     parser.add_argument('files', nargs='+')
     given = parser.parse_args(words)
-    asked = {name: getattr(given, name) for name in ('basis', 'method', 'conflicts', 'max_steps')}
+    asked = {name: getattr(given, name) for name in ('basis', 'method', 'conflicts', 'max_steps', 'effort')}
     each = [question for file in given.files for question in questions(bytes_in(file))]
     if given.keep:
         given.keep.mkdir(parents=True, exist_ok=True)

@@ -1,0 +1,4 @@
+pub mod FormatsReport
+pub mod FormatsLaws
+pub mod AigerReport
+pub mod AigerLaws

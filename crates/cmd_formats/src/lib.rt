@@ -1,0 +1,12 @@
+//! Commands over netlists in any format (`net_formats`), for `frame_core`.
+//!
+//! `EquivFormats` is `equiv` of a netlist with a given one, each a text of its own in a format of its own: the task of
+//! `EquivWith` of `cmd_equiv`, with formats (`specs/FormatsReport`). `ImproveAiger` is `improve` for AIGER
+//! (`specs/AigerReport`). `specs/FormatsLaws` and `specs/AigerLaws` prove that these are tasks.
+#![tactic(auto)]
+
+mod comparing;
+mod improving;
+
+pub use comparing::EquivFormats;
+pub use improving::{ImproveAiger, has_and_gates};

@@ -1,0 +1,3 @@
+pub mod Plain
+pub mod Finding
+pub mod Replying

@@ -1,0 +1,129 @@
+-- The formats that words ask for, and the words that mean the same without them.
+use Rattle.std.specs.Prelude.{ℕ, List, [], ◌∷◌, ◌++◌, Bool, true, false, Option, Some, None, codes, if◌then◌else◌}
+use Rattle.command_line.specs.Options.{is_word}
+use Rattle.command_line.specs.CommandLine.{word_after, is_named}
+use Rattle.file_words.specs.Formats.{ends_with}
+use Rattle.file_words.specs.Sorting.{Line, file_line}
+use Rattle.format_names.specs.declared.formats.NetFormat.{NetFormat}
+use Rattle.format_names.specs.declared.formats.NetFormat.TheVariants.{Blif, Bench, Aiger}
+use Rattle.format_words.specs.declared.asking.FormatsAsked.{FormatsAsked}
+use Rattle.format_words.specs.declared.asking.FormatsAsked.TheVariants.{Own, ImproveAiger, Compare}
+
+-- ---- formats
+
+-- the format of a file, by the end of its name
+abbrev pub format_of_file : List ℕ → NetFormat
+format_of_file file = if ends_with file (codes ".aag") then Aiger
+    else (if ends_with file (codes ".bench") then Bench else Blif)
+
+-- the format that a word names
+abbrev pub format_named : List ℕ → Option NetFormat
+format_named word = if is_word word (codes "aiger") then Some Aiger
+    else (if is_word word (codes "bench") then Some Bench
+    else (if is_word word (codes "blif") then Some Blif else None))
+
+-- the value of `--format`
+abbrev pub named_format : List (List ℕ) → Option (List ℕ)
+named_format options = word_after (codes "--format") options
+
+abbrev pub names_aiger : List (List ℕ) → Bool
+names_aiger [] = false
+names_aiger (file ∷ files) = ends_with file (codes ".aag")
+
+-- ---- what is asked
+
+-- `improve` reads AIGER if `--format aiger` says so, or without `--format` the end of its file's name.
+abbrev pub wants_aiger : Option (List ℕ) → List (List ℕ) → Bool
+wants_aiger (Some word) files = is_word word (codes "aiger")
+wants_aiger None files = names_aiger files
+
+abbrev pub improve_asked : Option (List ℕ) → List (List ℕ) → FormatsAsked
+improve_asked named files = if wants_aiger named files then ImproveAiger else Own
+
+abbrev pub pair_named : Option NetFormat → FormatsAsked
+pair_named (Some format) = Compare (record { first = format; second = format })
+pair_named None = Own
+
+-- `equiv` reads both files in the format of `--format`, or each in that of its name.
+abbrev pub pair_asked : Option (List ℕ) → List ℕ → List ℕ → FormatsAsked
+pair_asked (Some word) first second = pair_named (format_named word)
+pair_asked None first second = Compare (record { first = format_of_file first; second = format_of_file second })
+
+abbrev pub equiv_asked : Option (List ℕ) → List (List ℕ) → FormatsAsked
+equiv_asked named [] = Own
+equiv_asked named (first ∷ []) = Own
+equiv_asked named (first ∷ second ∷ []) = pair_asked named first second
+equiv_asked named (first ∷ second ∷ third ∷ files) = Own
+
+-- by the words of a line, which are those of the command without files, and the files that it reads
+abbrev pub asked_in : List (List ℕ) → List (List ℕ) → FormatsAsked
+asked_in [] files = Own
+asked_in (name ∷ options) files =
+    if is_word name (codes "improve") then improve_asked (named_format options) files
+    else (if is_word name (codes "equiv") then equiv_asked (named_format options) files else Own)
+
+abbrev pub asked_on : Option Line → FormatsAsked
+asked_on None = Own
+asked_on (Some line) = asked_in line.words line.operands
+
+-- What words ask for. Examples: `improve a.aag` and `improve --format aiger` ask for AIGER; `equiv a.aag b.bench` asks for
+-- AIGER and BENCH.
+abbrev pub asked_of : List (List ℕ) → FormatsAsked
+asked_of words = asked_on (file_line words)
+
+-- ---- the words without formats
+
+-- pairs of a name and a value without the first `--format`
+unfoldable pub without_format : List (List ℕ) → List (List ℕ)
+without_format [] = []
+without_format (name ∷ []) = name ∷ []
+without_format (name ∷ word ∷ words) =
+    if is_word (codes "--format") name then words else name ∷ word ∷ without_format words
+
+abbrev pub option_words : List ℕ → Option (List ℕ) → List (List ℕ)
+option_words name None = []
+option_words name (Some word) = name ∷ word ∷ []
+
+-- the words of the outputs and of the files that are read
+abbrev pub file_words_of : Line → List (List ℕ)
+file_words_of line = option_words (codes "-o") line.output ++ option_words (codes "--certificate") line.certificate ++
+    codes "--" ∷ line.operands
+
+-- the basis of AND gates with complements, if none is named
+abbrev pub basis_words : List (List ℕ) → List (List ℕ)
+basis_words options = if is_named (codes "--basis") options then [] else codes "--basis" ∷ codes "u2" ∷ []
+
+abbrev pub extra_words : FormatsAsked → List (List ℕ) → List (List ℕ)
+extra_words ImproveAiger options = basis_words options
+extra_words asked options = []
+
+abbrev pub rebuilt_from : FormatsAsked → Line → List (List ℕ) → List (List ℕ)
+rebuilt_from asked line [] = []
+rebuilt_from asked line (name ∷ options) =
+    name ∷ without_format options ++ extra_words asked options ++ file_words_of line
+
+abbrev pub rebuilt : FormatsAsked → Line → List (List ℕ)
+rebuilt asked line = rebuilt_from asked line line.words
+
+abbrev pub names_format : List (List ℕ) → Bool
+names_format [] = false
+names_format (name ∷ options) = is_named (codes "--format") options
+
+-- whether the words change
+abbrev pub rebuilds : FormatsAsked → List (List ℕ) → Bool
+rebuilds Own words = false
+rebuilds ImproveAiger words = true
+rebuilds (Compare pair) words = names_format words
+
+abbrev pub plain_in : FormatsAsked → List (List ℕ) → Line → List (List ℕ)
+plain_in asked words line = if rebuilds asked line.words then rebuilt asked line else words
+
+abbrev pub plain_on : Option Line → List (List ℕ) → List (List ℕ)
+plain_on None words = words
+plain_on (Some line) words = plain_in (asked_in line.words line.operands) words line
+
+-- The words that mean the same to a program that knows none of these formats: without `--format`, and with the basis
+-- `u2` for `improve` of AIGER if none is named. Other words stay as they are.
+-- Example: of `improve --format aiger --cap 4 a` they are `improve --cap 4 --basis u2 -- a`.
+abbrev pub plain_words : List (List ℕ) → List (List ℕ)
+plain_words words = plain_on (file_line words) words

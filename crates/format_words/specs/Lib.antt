@@ -1,0 +1,2 @@
+pub mod FormatsAsked
+pub mod WordsOf

@@ -1,0 +1,153 @@
+//! The words of a line without formats.
+ghost use Rattle.std.specs.Prelude.{◌≡◌, ◌++◌, ◌∷◌, [], map, IfOk, OnOk};
+ghost use Rattle.std.specs.Option.{option_map};
+ghost use Rattle.std.specs.String.{string_bytes};
+ghost use Rattle.command_line.specs.CommandLine.{spelled};
+ghost use Rattle.file_words.specs.Lines.{line_value};
+ghost use Rattle.format_words.specs.FormatsAsked as spec;
+
+use crate::asking::{FormatsAsked, is_word, word_after};
+use file_words::FileLine;
+use std::alloc::{AllocError, Global};
+
+/// Appends a copy of a word.
+fn push_word(alloc: Global, words: &mut Vec<String>, word: &str) -> Result<(), AllocError>
+    ensures { OnOk result (map string_bytes words.new.items ≡ map string_bytes words.old.items ++ word.now ∷ []) }
+{
+    words.push(String::from_str(alloc, word)?)?;
+    Ok(())
+}
+
+/// Appends copies of words.
+fn push_words(alloc: Global, words: &mut Vec<String>, more: &[String]) -> Result<(), AllocError>
+    ensures { OnOk result (map string_bytes words.new.items ≡
+        map string_bytes words.old.items ++ map string_bytes more.now) }
+{
+    let mut left = more;
+    while let Some((word, rest)) = left.split_first() {
+        push_word(alloc, words, word.as_str())?;
+        left = rest;
+    }
+    Ok(())
+}
+
+/// Appends pairs of a name and a value without the first `--format`.
+#[tactic(auto, unfolding(crate::specs::FormatsAsked::without_format))]
+fn push_options(
+    alloc: Global,
+    words: &mut Vec<String>,
+    options: &[String],
+) -> Result<(), AllocError>
+    ensures { OnOk result (map string_bytes words.new.items ≡
+        map string_bytes words.old.items ++ spec.without_format (map string_bytes options.now)) }
+{
+    let mut left = options;
+    while let Some((name, after)) = left.split_first() {
+        let Some((word, rest)) = after.split_first() else {
+            return push_word(alloc, words, name.as_str());
+        };
+        if is_word(b"--format", name.as_bytes()) {
+            return push_words(alloc, words, rest);
+        }
+        push_word(alloc, words, name.as_str())?;
+        push_word(alloc, words, word.as_str())?;
+        left = rest;
+    }
+    Ok(())
+}
+
+/// Appends a name and its value, if there is one.
+fn push_option(
+    alloc: Global,
+    words: &mut Vec<String>,
+    name: &str,
+    value: &Option<String>,
+) -> Result<(), AllocError>
+    ensures { OnOk result (map string_bytes words.new.items ≡
+        map string_bytes words.old.items ++ spec.option_words name.now (option_map string_bytes value.now)) }
+{
+    let Some(word) = value else {
+        return Ok(());
+    };
+    push_word(alloc, words, name)?;
+    push_word(alloc, words, word.as_str())
+}
+
+/// Appends the words of the outputs and of the files that are read.
+fn push_files(alloc: Global, words: &mut Vec<String>, line: &FileLine) -> Result<(), AllocError>
+    ensures { OnOk result (map string_bytes words.new.items ≡
+        map string_bytes words.old.items ++ spec.file_words_of (line_value line.now)) }
+{
+    push_option(alloc, words, "-o", &line.output)?;
+    push_option(alloc, words, "--certificate", &line.certificate)?;
+    push_word(alloc, words, "--")?;
+    push_words(alloc, words, &line.operands)
+}
+
+/// Appends the basis of AND gates with complements, if none is named.
+fn push_basis(alloc: Global, words: &mut Vec<String>, options: &[String]) -> Result<(), AllocError>
+    ensures { OnOk result (map string_bytes words.new.items ≡
+        map string_bytes words.old.items ++ spec.basis_words (map string_bytes options.now)) }
+{
+    if word_after(b"--basis", options).is_some() {
+        return Ok(());
+    }
+    push_word(alloc, words, "--basis")?;
+    push_word(alloc, words, "u2")
+}
+
+/// Appends the words that stand for a format.
+fn push_extra(
+    alloc: Global,
+    words: &mut Vec<String>,
+    asked: FormatsAsked,
+    options: &[String],
+) -> Result<(), AllocError>
+    ensures { OnOk result (map string_bytes words.new.items ≡
+        map string_bytes words.old.items ++ spec.extra_words asked (map string_bytes options.now)) }
+{
+    match asked {
+        FormatsAsked::ImproveAiger => push_basis(alloc, words, options),
+        FormatsAsked::Own | FormatsAsked::Compare(_) => Ok(()),
+    }
+}
+
+/// The words of a line without formats.
+pub(crate) fn rebuilt(
+    alloc: Global,
+    asked: FormatsAsked,
+    line: &FileLine,
+) -> Result<Vec<String>, AllocError>
+    ensures { IfOk result (λ words. spelled words ≡ spec.rebuilt asked (line_value line.now)) }
+{
+    let mut words = Vec::new(alloc);
+    let Some((name, options)) = line.words.split_first() else {
+        return Ok(words);
+    };
+    push_word(alloc, &mut words, name.as_str())?;
+    push_options(alloc, &mut words, options)?;
+    push_extra(alloc, &mut words, asked, options)?;
+    push_files(alloc, &mut words, line)?;
+    Ok(words)
+}
+
+/// Whether `--format` is named.
+fn names_format(words: &[String]) -> bool
+    ensures { result ≡ spec.names_format (map string_bytes words.now) }
+{
+    let Some((_, options)) = words.split_first() else {
+        return false;
+    };
+    word_after(b"--format", options).is_some()
+}
+
+/// Whether the words of a line change.
+pub(crate) fn rebuilds(asked: FormatsAsked, words: &[String]) -> bool
+    ensures { result ≡ spec.rebuilds asked (map string_bytes words.now) }
+{
+    match asked {
+        FormatsAsked::Own => false,
+        FormatsAsked::ImproveAiger => true,
+        FormatsAsked::Compare(_) => names_format(words),
+    }
+}

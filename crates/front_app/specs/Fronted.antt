@@ -1,0 +1,28 @@
+-- How a run ends, by the formats that its words ask for.
+use Rattle.std.specs.Prelude.{◌⊎◌, ℕ, List}
+use Rattle.format_words.specs.declared.asking.FormatsAsked.{FormatsAsked}
+use Rattle.format_words.specs.declared.asking.FormatsAsked.TheVariants.{Own, ImproveAiger, Compare}
+use Rattle.format_words.specs.FormatsAsked.{asked_of, plain_words}
+use Rattle.frame_core.specs.declared.status.Status.TheVariants.{Memory}
+use Rattle.frame_core.specs.Reported.{memory}
+use Rattle.front_core.specs.Front.{Promises, promised_by, FrontRun, front_run, Reports}
+use Rattle.front_guide.specs.Guided.{IsGuided}
+use Rattle.chain_app.specs.KeepsPromises.{KeepsPromises}
+use Rattle.front_app.specs.Comparison.{blif_pair, KeepsComparison}
+use Rattle.front_app.specs.Named.{KeepsNamed}
+use Rattle.front_app.specs.Aiger.{KeepsAiger}
+
+-- What is promised: of `improve` over AIGER, of a comparison of two files in their formats, and of anything else.
+abbrev pub promises_of : FormatsAsked → Promises
+promises_of Own = promised_by KeepsPromises KeepsNamed (KeepsComparison blif_pair)
+promises_of ImproveAiger = promised_by KeepsAiger KeepsAiger (KeepsComparison blif_pair)
+promises_of (Compare formats) = promised_by KeepsPromises KeepsNamed (KeepsComparison formats)
+
+-- a run with other words
+abbrev pub with_words : List (List ℕ) → FrontRun → FrontRun
+with_words words r = front_run words r.files r.source r.out r.note r.status
+
+-- Memory ran out before the words were read; or the run is that of the words without formats, with what is promised for the
+-- formats that they ask for.
+abbrev pub IsFronted : FrontRun → Type 0
+IsFronted r = Reports memory Memory r ⊎ IsGuided (promises_of (asked_of r.words)) (with_words (plain_words r.words) r)

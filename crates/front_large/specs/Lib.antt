@@ -1,0 +1,4 @@
+pub mod LargeAsked
+pub mod LargeRuns
+pub mod LargeValues
+pub mod LargeWords

@@ -1,0 +1,5 @@
+pub mod Formats
+pub mod Few
+pub mod BlifFew
+pub mod AigerFew
+pub mod FormatLaws
