@@ -279,12 +279,16 @@ class Pairs(Formula):
     def by_symmetry(self):
         for p, q in itertools.combinations(range(1, self.inputs + 1), 2):
             if self.may_exchange(p, q):
-                for i in self.steps:
-                    for u in self.pairs[i]:
-                        if q in u and p not in u:
-                            earlier = range(self.steps.start, i)
-                            with_p = [l for k in earlier for l in self.has(k, lambda v: p in v and q not in v)]
-                            self.add(self.lit(0, 's', i, u), *with_p)
+                self.exchange(p, q)
+
+    def exchange(self, p, q):
+        """No step reads q without p before some step has read p without q."""
+        for i in self.steps:
+            for u in self.pairs[i]:
+                if q in u and p not in u:
+                    earlier = range(self.steps.start, i)
+                    with_p = [l for k in earlier for l in self.has(k, lambda v: p in v and q not in v)]
+                    self.add(self.lit(0, 's', i, u), *with_p)
 
     def edges(self):
         """The pairs of rows that differ in one input, where an output has to differ: that input and both rows."""
@@ -316,6 +320,36 @@ class Pairs(Formula):
         for p in self.pairs[i]:
             if j in p:
                 self.add(self.lit(0, 's', i, p), self.lit(1, 'd', edge, i), *others)
+
+
+class Exchanging(Pairs):
+    """The strong methods, with the exchange cut for inputs that may be exchanged once others are complemented."""
+
+    def strengthen(self):
+        if self.basis.polarity:
+            self.by_complements()
+        super().strengthen()
+
+    def may_exchange_complemented(self, p, q):
+        """Whether the exchange, with some inputs complemented, and all outputs or none, keeps each table."""
+        flipped = {'0': '1', '1': '0', '-': '-'}
+
+        def exchanged(row, k):
+            bits = [bit_of(self.inputs, place, row) for place in range(self.inputs + 1)]
+            bits[p], bits[q] = bits[q], bits[p]
+            return int(''.join(map(str, bits[1:])), 2) ^ k
+
+        cells = [(table, t) for table in self.tables for t in self.rows]
+        return any(
+            all((flipped[table[t]] if b else table[t]) == table[exchanged(t, k)] for table, t in cells)
+            for k in self.rows
+            for b in BITS
+        )
+
+    def by_complements(self):
+        for p, q in itertools.combinations(range(1, self.inputs + 1), 2):
+            if not self.may_exchange(p, q) and self.may_exchange_complemented(p, q):
+                self.exchange(p, q)
 
 
 class Select(Formula):
@@ -392,6 +426,8 @@ class Select(Formula):
 def formula_of(tables, basis, method, size, fence):
     if method == 'select':
         return Select(tables, basis, size)
+    if method == 'npn':
+        return Exchanging(tables, basis, size, True, fence, True)
     return Pairs(tables, basis, size, method != 'plain', fence, method.startswith('strong'))
 
 

@@ -1,9 +1,9 @@
 #!/usr/bin/env python3
 """vectors.py [--write]: the test vectors of the encodings, computed again by dimacs.py.
 
-`specs/*Vectors.antt` of `enc_theory` and `strong_theory` have lines `vector N ON CARE BASIS SIZE VARS CLAUSES LITERALS
-CHECKSUM` (and `fenced`, with the fence after SIZE): a question, and the outline of its formula, which the prover
-compares with the definition of the encoding. This script computes each outline with the formulas of dimacs.py, which
+`specs/*Vectors.antt` of `enc_theory`, `strong_theory` and `npn_strong` have lines `vector N ON CARE BASIS SIZE VARS
+CLAUSES LITERALS CHECKSUM` (and `fenced`, with the fence after SIZE): a question, and the outline of its formula, which
+the prover compares with the definition of the encoding. This script computes each outline with the formulas of dimacs.py, which
 follow docs/FORMATS.md and share nothing with the definitions. It prints how many vectors of each file are the same, and
 each that isn't. With --write it puts the computed numbers into the files.
 
@@ -16,7 +16,8 @@ sys.dont_write_bytecode = True
 import dimacs  # noqa: E402
 
 TOP = os.path.dirname(os.path.dirname(os.path.realpath(__file__)))
-FILES = {'Plain': 'plain', 'Ssv': 'ssv', 'Select': 'select', 'Fence': 'fence', 'Strong': 'strong'}
+FILES = {'Plain': 'plain', 'Ssv': 'ssv', 'Select': 'select', 'Fence': 'fence', 'Strong': 'strong', 'Npn': 'npn'}
+CRATES = {'Strong': 'strong_theory', 'Npn': 'npn_strong'}
 LIST = r'(\[\]|\((?:\d+ ∷ )*\[\]\))'
 LINE = re.compile(rf'\b(vector|fenced) (\d+) {LIST} {LIST} (\d+) (\d+)( {LIST})? (\d+ \d+ \d+ \d+)(?= *$)', re.MULTILINE)
 
@@ -53,7 +54,7 @@ def main():
         return 0 if sys.argv[1:] == ['--help'] else 1
     differ = 0
     for name, method in FILES.items():
-        crate = 'strong_theory' if name == 'Strong' else 'enc_theory'
+        crate = CRATES.get(name, 'enc_theory')
         path = f'{TOP}/crates/{crate}/specs/{name}Vectors.antt'
         with open(path, encoding='utf-8') as file:
             text = file.read()

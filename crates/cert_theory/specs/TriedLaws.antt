@@ -1,5 +1,5 @@
 -- The subproblems of a size that are tried.
-use Rattle.std.proofs.Common.{◌≡◌, ℕ, zero, suc, ◌<◌, Bool, true, false, cond, List, [], ◌∷◌, length, Contains, refl, ap, ◌∙◌, arith, ◌||◌}
+use Rattle.std.proofs.Common.{◌≡◌, zero, suc, ◌<◌, Bool, true, false, cond, List, [], ◌∷◌, length, Contains, refl, ap, ◌∙◌, arith, ◌||◌}
 use Rattle.std.specs.List.{list_any}
 use Rattle.enc_theory.specs.declared.subproblem.Subproblem.{Subproblem}
 use Rattle.settings.specs.declared.methods.Method.{Method}

@@ -23,7 +23,7 @@ use Rattle.chain_laws.specs.Settled.{IsKeyMinimal, paired_same}
 abbrev pub flip : Bool → Bool → Bool
 flip on bit = if on then not bit else bit
 
-flip_twice : (on bit : Bool) → flip on (flip on bit) ≡ bit
+pub flip_twice : (on bit : Bool) → flip on (flip on bit) ≡ bit
 flip_twice true true = refl
 flip_twice true false = refl
 flip_twice false bit = refl
@@ -37,7 +37,7 @@ flipped first second own op =
     if own then complement two else two
 
 -- the operator is a member and has the values of f
-abbrev IsMember : Basis → (Bool → Bool → Bool) → ℕ → Type 0
+abbrev pub IsMember : Basis → (Bool → Bool → Bool) → ℕ → Type 0
 IsMember basis f op = (op < 16) × (basis op ≡ true) × ((a b : Bool) → apply op a b ≡ f a b)
 
 members_of : (basis : Basis) → polarity_closed basis ≡ true → (op : ℕ) → op < 16 → basis op ≡ true →
@@ -70,7 +70,7 @@ own_member basis closed f op is false = is
 own_member basis closed f op is true = (operator_low (λ a b. not (apply op a b)), (members_of basis closed op is.0 is.1).0, λ a b. operator_values (λ x y. not (apply op x y)) a b ∙ ap not (is.2 a b))
 
 -- Over a basis closed under complements the adapted operator is a member.
-flipped_member : (basis : Basis) → polarity_closed basis ≡ true → (op : ℕ) → op < 16 → basis op ≡ true →
+pub flipped_member : (basis : Basis) → polarity_closed basis ≡ true → (op : ℕ) → op < 16 → basis op ≡ true →
     (first second own : Bool) → IsMember basis (λ a b. flip own (apply op (flip first a) (flip second b)))
     (flipped first second own op)
 unfolding flipped

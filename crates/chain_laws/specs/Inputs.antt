@@ -41,7 +41,7 @@ before_same j k j2 k2 l m l2 m2 ej ek el em before =
     (subst (λ (x : ℕ). ComesBefore (pair j2 k2) (pair l2 x)) (sym em) before)))
 
 -- A pair with q and without p comes earlier when q is renamed to the smaller p.
-falls : (p q : ℕ) (a : Step) → p < q → ReadsWithout a q p → ComesBefore (moved (renamed p q) a) a
+pub falls : (p q : ℕ) (a : Step) → p < q → ReadsWithout a q p → ComesBefore (moved (renamed p q) a) a
 falls p q a less reads =
     let f : ℕ → ℕ = renamed p q in
     elim (renamed_cases p q a.j) [
@@ -69,14 +69,14 @@ key_pair : (base : ℕ) (a : Step) → key base a ≡ key base (pair a.j a.k)
 unfolding key
 key_pair base a = refl
 
-key_by : (base : ℕ) (a b : Step) → a.j ≡ b.j → a.k ≡ b.k → key base a ≡ key base b
+pub key_by : (base : ℕ) (a b : Step) → a.j ≡ b.j → a.k ≡ b.k → key base a ≡ key base b
 key_by base a b ej ek = key_pair base a ∙ ap (λ (x : ℕ). key base (pair x a.k)) ej ∙ ap (λ (x : ℕ). key base (pair b.j x)) ek ∙ sym (key_pair base b)
 
 key_crossed : (base : ℕ) (a b : Step) → a.j ≡ b.k → a.k ≡ b.j → key base a ≡ key base b
 key_crossed base a b ej ek = key_by base a (pair b.k b.j) ej ek ∙ key_operands_exchanged base b.k b.j ∙ sym (key_pair base b)
 
 -- a step that reads both or neither keeps its key
-stays : (base p q : ℕ) (a : Step) → p < q → (Reads a p → Reads a q) → (Reads a q → Reads a p) → key base (moved (renamed p q) a) ≡ key base a
+pub stays : (base p q : ℕ) (a : Step) → p < q → (Reads a p → Reads a q) → (Reads a q → Reads a p) → key base (moved (renamed p q) a) ≡ key base a
 stays base p q a less up down =
     let f : ℕ → ℕ = renamed p q in
     elim (renamed_cases p q a.j) [

@@ -28,7 +28,7 @@ use Rattle.chain_laws.specs.Settling.{settled}
 -- ---- operands in increasing order
 
 -- operands are in increasing order, if the basis is closed under exchanged operands
-abbrev Rise : Basis → ℕ → (ℕ → Step) → Type 0
+abbrev pub Rise : Basis → ℕ → (ℕ → Step) → Type 0
 Rise basis r step = swap_closed basis ≡ true → (k : ℕ) → k < r → (step k).j ≤ (step k).k
 
 record IsRisen (s : Specification) (basis : Basis) (r d : ℕ) : Type 0 where
@@ -51,38 +51,38 @@ risen s basis r d b fits is = ⊎_elim
 -- ---- row 0
 
 -- a decision as a bit
-unfoldable flag : {P : Type 0} → IsDecidable P → Bool
+unfoldable pub flag : {P : Type 0} → IsDecidable P → Bool
 flag (inl holds) = true
 flag (inr fails) = false
 
-flag_true : {P : Type 0} (d : IsDecidable P) → P → flag d ≡ true
+pub flag_true : {P : Type 0} (d : IsDecidable P) → P → flag d ≡ true
 unfolding flag
 flag_true (inl holds) p = refl
 flag_true (inr fails) p = absurd (fails p)
 
-flag_false : {P : Type 0} (d : IsDecidable P) → (P → ⊥) → flag d ≡ false
+pub flag_false : {P : Type 0} (d : IsDecidable P) → (P → ⊥) → flag d ≡ false
 unfolding flag
 flag_false (inl holds) never = absurd (never holds)
 flag_false (inr fails) never = refl
 
 -- a step that isn't an out and is 1 on row 0
-abbrev IsOne : ℕ → ℕ → Body → ℕ → Type 0
+abbrev pub IsOne : ℕ → ℕ → Body → ℕ → Type 0
 IsOne n r b p = (n < p) × ((bits_of n r b.step 0 p ≡ true) × (IsSomeOut b.outs p → ⊥))
 
-decided_one : (n r : ℕ) (b : Body) (p : ℕ) → IsDecidable (IsOne n r b p)
+pub decided_one : (n r : ℕ) (b : Body) (p : ℕ) → IsDecidable (IsOne n r b p)
 decided_one n r b p = decided_and (n < p) ((bits_of n r b.step 0 p ≡ true) × (IsSomeOut b.outs p → ⊥)) (decided_lt n p)
     (decided_and (bits_of n r b.step 0 p ≡ true) (IsSomeOut b.outs p → ⊥) (decided_true (bits_of n r b.step 0 p)) (decided_not (IsSomeOut b.outs p) (decided_named b.outs p)))
 
 -- steps are outs or 0 on row 0
-abbrev AreZero : Specification → Basis → ℕ → Body → Type 0
+abbrev pub AreZero : Specification → Basis → ℕ → Body → Type 0
 AreZero s basis r b = polarity_closed basis ≡ true → (i : ℕ) → i < r → (bits_of s.inputs r b.step 0 (s.inputs + 1 + i) ≡ false) ⊎ Contains b.outs (Place (s.inputs + 1 + i))
 
-record IsFinal (s : Specification) (basis : Basis) (r d : ℕ) : Type 0 where
-  body : Body
-  fits : Fits s basis r d body
-  settled : IsKeyMinimal s basis r body.step
-  rise : Rise basis r body.step
-  zero : AreZero s basis r body
+pub record IsFinal (s : Specification) (basis : Basis) (r d : ℕ) : Type 0 where
+  pub body : Body
+  pub fits : Fits s basis r d body
+  pub settled : IsKeyMinimal s basis r body.step
+  pub rise : Rise basis r body.step
+  pub zero : AreZero s basis r body
 
 zeroed : (s : Specification) (basis : Basis) (r d : ℕ) → (HasFewer s basis r → ⊥) → polarity_closed basis ≡ true → IsRisen s basis r d → IsFinal s basis r d
 zeroed s basis r d none closed is =
@@ -127,7 +127,7 @@ final s basis r d none is = ⊎_elim
 each_step : (r : ℕ) (step : ℕ → Step) (P : ℕ → Step → Type 0) → ((i : ℕ) → i < r → P i (step i)) → (i : ℕ) (a : Step) → slice_get (rebuilt step r) i ≡ Some a → P i a
 each_step r step P each i a at = let here = rebuilt_at step r i a at in subst (P i) (sym here.1) (each i here.0)
 
-normal_form : (s : Specification) (basis : Basis) (r d : ℕ) → (HasFewer s basis r → ⊥) → (f : IsFinal s basis r d) → IsNormalForm basis s (chain_of s.inputs r f.body)
+pub normal_form : (s : Specification) (basis : Basis) (r d : ℕ) → (HasFewer s basis r → ⊥) → (f : IsFinal s basis r d) → IsNormalForm basis s (chain_of s.inputs r f.body)
 normal_form s basis r d none f =
     let n : ℕ = s.inputs in
     let b : Body = f.body in

@@ -42,7 +42,7 @@ oriented_rises a = elim (orient_cases a) [
   | inr is ↦ subst (λ (x : Step). x.j ≤ x.k) (sym is.1) (omega (arith, is.0))
 ]
 
-oriented_pair : (a : Step) → SamePair (oriented a) a
+pub oriented_pair : (a : Step) → SamePair (oriented a) a
 oriented_pair a = orient_by (λ x. SamePair x a) a (inl (refl, refl)) (λ falls. inr (refl, refl))
 
 operands_exchanged_negation : (op : ℕ) → op < 16 → IsNegation (swapped op) → IsNegation op

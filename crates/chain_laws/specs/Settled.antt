@@ -35,7 +35,7 @@ pair_reads a b same p reads = elim same [
   | inr e ↦ ⊎_elim (λ (at_j : a.j ≡ p). inr (sym e.0 ∙ at_j)) (λ (at_k : a.k ≡ p). inl (sym e.1 ∙ at_k)) reads
 ]
 
-pair_without : (a b : Step) → SamePair a b → (p q : ℕ) → ReadsWithout a p q → ReadsWithout b p q
+pub pair_without : (a b : Step) → SamePair a b → (p q : ℕ) → ReadsWithout a p q → ReadsWithout b p q
 pair_without a b same p q reads = (pair_reads a b same p reads.0, λ there. reads.1 (pair_reads b a (pair_back a b same) q there))
 
 pair_larger : (a b : Step) → SamePair a b → larger a ≡ larger b

@@ -24,7 +24,7 @@ use Rattle.chain_laws.specs.Settled.{IsKeyMinimal}
 
 -- ---- the rules are decidable
 
-decided_cell : (a b : Cell) → IsDecidable (a ≡ b)
+pub decided_cell : (a b : Cell) → IsDecidable (a ≡ b)
 decided_cell cells.Zero cells.Zero = inl refl
 decided_cell cells.One cells.One = inl refl
 decided_cell cells.Free cells.Free = inl refl
@@ -52,7 +52,7 @@ decided_again place a b = decided_or ((b.j ≡ place) × Reads a b.k) ((b.k ≡ 
     (decided_and (b.j ≡ place) (Reads a b.k) (cases_eq b.j place) (decided_reads a b.k))
     (decided_and (b.k ≡ place) (Reads a b.j) (cases_eq b.k place) (decided_reads a b.j))
 
-decided_without : (a : Step) (p q : ℕ) → IsDecidable (ReadsWithout a p q)
+pub decided_without : (a : Step) (p q : ℕ) → IsDecidable (ReadsWithout a p q)
 decided_without a p q = decided_and (Reads a p) (Reads a q → ⊥) (decided_reads a p) (decided_not (Reads a q) (decided_reads a q))
 
 -- ---- a rule is violated
@@ -78,10 +78,10 @@ decided_reapplied : (n r : ℕ) (step : ℕ → Step) → IsDecidable (IsSomewhe
 decided_reapplied n r step = decided_somewhere (Again n r step) (λ k. decided_somewhere (λ i. IsReapplication (n + 1 + i) (step i) (step k)) (λ i. decided_again (n + 1 + i) (step i) (step k)) k) r
 
 -- step k reads q without p, and no earlier step reads p without q
-abbrev TooEarly : (ℕ → Step) → ℕ → ℕ → ℕ → Type 0
+abbrev pub TooEarly : (ℕ → Step) → ℕ → ℕ → ℕ → Type 0
 TooEarly step p q k = ReadsWithout (step k) q p × (IsSomewhere (λ i. ReadsWithout (step i) p q) k → ⊥)
 
-decided_early : (step : ℕ → Step) (p q k : ℕ) → IsDecidable (TooEarly step p q k)
+pub decided_early : (step : ℕ → Step) (p q k : ℕ) → IsDecidable (TooEarly step p q k)
 decided_early step p q k = decided_and (ReadsWithout (step k) q p) (IsSomewhere (λ i. ReadsWithout (step i) p q) k → ⊥) (decided_without (step k) q p)
     (decided_not (IsSomewhere (λ i. ReadsWithout (step i) p q) k) (decided_somewhere (λ i. ReadsWithout (step i) p q) (λ i. decided_without (step i) p q) k))
 
@@ -101,7 +101,7 @@ decided_inputs s r step = decided_somewhere (λ q. IsSomewhere (Exchangeable s r
 -- ---- the descent
 
 -- the keys can decrease, if no chain of fewer steps agrees
-abbrev Falls : Specification → Basis → ℕ → ℕ → Body → Type 0
+abbrev pub Falls : Specification → Basis → ℕ → ℕ → Body → Type 0
 Falls s basis r d b = IsLower (Fits s basis r d) (λ x. rank (s.inputs + r + 1) r x.step) b
 
 early_falls : (s : Specification) (basis : Basis) (r d : ℕ) (b : Body) → Fits s basis r d b → InputsOut s r b.step → Falls s basis r d b
@@ -149,7 +149,7 @@ early_none s r step none p q from less low symmetric k k_low reads = ⊎_elim
     (λ (never : IsSomewhere (λ i. ReadsWithout (step i) p q) k → ⊥). absurd (none (q, omega arith, (p, less, (from, (symmetric, (k, k_low, (reads, never))))))))
     (decided_somewhere (λ i. ReadsWithout (step i) p q) (λ i. decided_without (step i) p q) k)
 
-settled_or_falls : (s : Specification) (basis : Basis) (r d : ℕ) → (HasFewer s basis r → ⊥) → (b : Body) → Fits s basis r d b → IsKeyMinimal s basis r b.step ⊎ Falls s basis r d b
+pub settled_or_falls : (s : Specification) (basis : Basis) (r d : ℕ) → (HasFewer s basis r → ⊥) → (b : Body) → Fits s basis r d b → IsKeyMinimal s basis r b.step ⊎ Falls s basis r d b
 settled_or_falls s basis r d none b fits = ⊎_elim
     (λ (split : SplitNegation r b.step). inr (negation_lower s basis r d b fits split.0 split.1 split.2.0 split.2.1))
     (λ (whole : SplitNegation r b.step → ⊥). ⊎_elim

@@ -13,9 +13,9 @@ use enc_theory::Slot;
 use std::alloc::{AllocError, Global};
 use tt_core::{Spec, symmetric};
 
-/// Whether the inputs `p` and `q` are symmetric: exchanging them leaves the tables unchanged.
+/// Whether the inputs `p` and `q`, numbered from 1, are symmetric: exchanging them leaves the tables unchanged.
 #[tactic(auto, using(crate::proofs::Pieces::exchanging))]
-fn may_exchange(spec: &Spec, p: u32, q: u32) -> bool
+pub fn may_exchange(spec: &Spec, p: u32, q: u32) -> bool
     requires { (1 ≤ p) × (p < q) × (q ≤ spec.now.n) }
     ensures { result ≡ may_exchange_of spec.now p q }
 {
@@ -95,7 +95,7 @@ fn push_exchange_slots(
 
 /// The clauses of all steps for two inputs.
 #[tactic(auto, using(crate::proofs::Walks::exchange_walk))]
-fn push_exchange_steps(
+pub fn push_exchange_steps(
     alloc: Global,
     list: &mut ClauseList,
     p: u32,

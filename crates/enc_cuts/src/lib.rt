@@ -39,6 +39,7 @@ mod trivial;
 mod used;
 
 use crate::exchange::push_exchange;
+pub use crate::exchange::{may_exchange, push_exchange_steps};
 pub use crate::formula::formula_with_cuts;
 use crate::no_reapplication::push_no_reapplication;
 use crate::order::push_order;

@@ -163,7 +163,7 @@ module _ (vars basis : ℕ) (w : Words) (z : Dimensions) (steps : List StepSlots
       (inside s' (contains_tail s s' later in_later)) (filter_get (has_place s.place) s'.slots u' in_reading))))))
       (no_reapplication_clauses later (λ x c. inside x (contains_tail s x later c)))
 
-  exchange_clauses : (p q : ℕ) (before : List RawLit) (later : List StepSlots) → AreOf vars before →
+  pub exchange_clauses : (p q : ℕ) (before : List RawLit) (later : List StepSlots) → AreOf vars before →
       ((s : StepSlots) → Contains later s → Contains steps s) → AreClauses vars (exchange_steps p q before later)
   unfolding exchange_steps exchange_slot readers_without reader_without chosen
   exchange_clauses p q before [] are inside = no_clauses vars

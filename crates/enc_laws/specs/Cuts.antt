@@ -325,14 +325,14 @@ module _ (w : Words) (basis r : ℕ) (steps : List StepSlots) (c : Chain) (place
 
   -- ---- symmetric inputs
 
-  without_positive : (p q : ℕ) (s : StepSlots) → Contains steps s → ArePositive (readers_without p q s)
+  pub without_positive : (p q : ℕ) (s : StepSlots) → Contains steps s → ArePositive (readers_without p q s)
   unfolding readers_without reader_without chosen
   without_positive p q s in_steps = positive-flat_map (reader_without p q) s.slots (λ u in_slots. elim (reads_without p q u) as (λ b. ArePositive (if b then Var u.var true ∷ [] else [])) [
     | true ↦ (slot_positive (sizes_of w r) steps s u placed.laid (record { step = in_steps; slot = in_slots }), tt)
     | false ↦ tt
   ])
 
-  without_there : (p q : ℕ) (s : StepSlots) (u : Slot) → Contains s.slots u → reads_without p q u ≡ true →
+  pub without_there : (p q : ℕ) (s : StepSlots) (u : Slot) → Contains s.slots u → reads_without p q u ≡ true →
       assignment_of (sizes_of w r) steps c u.var ≡ true →
       raws_bit (assignment_of (sizes_of w r) steps c) (readers_without p q s) ≡ true
   unfolding readers_without reader_without chosen raw_value same
@@ -360,7 +360,7 @@ module _ (w : Words) (basis r : ℕ) (steps : List StepSlots) (c : Chain) (place
       let (u', in_slots, j', k', true') = pair_slot s' in_steps in
       has.each s' u' (record { step = in_steps; slot = in_slots }) (omega arith) (without_test u' a p q (j' ∙ ap (λ (x : Step). x.j) step) (k' ∙ ap (λ (x : Step). x.k) step) without) true'))
 
-  before_more : (p q place : ℕ) (before : List RawLit) (s : StepSlots) (later : List StepSlots) →
+  pub before_more : (p q place : ℕ) (before : List RawLit) (s : StepSlots) (later : List StepSlots) →
       IsRest steps (s ∷ later) place → HasBefore steps (assignment_of (sizes_of w r) steps c) p q place before
       → HasBefore steps (assignment_of (sizes_of w r) steps c) p q (place + 1) (before ++ readers_without p q s)
   before_more p q place before s later rest has = record {

@@ -4,11 +4,11 @@
 //!
 //! The sizes 0, 1, 2 and so on are searched in order, and so are the subproblems of a size (the whole size, or
 //! each of its fences). The first subproblem with a chain ends the search. A size without one yields a section,
-//! which has a log (an LRAT proof) for each subproblem, refuted or open. The theorem is that of `search`: its
+//! which has a log (an LRAT proof) for each subproblem that was tried, refuted or open. The theorem is that of `search`: its
 //! result is a valid certificate whose logs stay small. An open log keeps at least half of its additions live, and
 //! no log has much more than three quarters of them live, so that it is cheap to check.
 //!
-//! Many chains are known before their size comes: of up to four inputs short ones by enumeration, of more inputs by
+//! Many chains are known before their size comes: short ones of up to four inputs by enumeration, all others by
 //! walks over small nets. Then the formula of their size isn't solved.
 //!
 //! ```text

@@ -1,5 +1,5 @@
 -- The loops that count the inputs in use.
-use Rattle.std.proofs.Common.{◌≡◌, ℕ, suc, ◌+◌, ◌<◌, Bool, true, false, length, cond, refl, arith, add-one, sym}
+use Rattle.std.proofs.Common.{◌≡◌, ℕ, ◌+◌, ◌<◌, Bool, true, false, length, cond, refl, add-one, sym}
 use Rattle.std.proofs.lemmas.Grind.{common_steps}
 use Rattle.tt_core.specs.RowLaws.{row_below}
 use Rattle.tt_core.specs.Words.{Words, specification}

@@ -1,0 +1,4 @@
+pub mod Exchange
+pub mod Transformed
+pub mod Descent
+pub mod Least

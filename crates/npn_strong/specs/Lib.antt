@@ -1,0 +1,5 @@
+pub mod Cut
+pub mod CutHolds
+pub mod Whole
+pub mod Fences
+pub mod NpnVectors
