@@ -322,8 +322,11 @@ class Pairs(Formula):
                 self.add(self.lit(0, 's', i, p), self.lit(1, 'd', edge, i), *others)
 
 
-class Exchanging(Pairs):
+class Strong(Pairs):
     """The strong methods, with the exchange cut for inputs that may be exchanged once others are complemented."""
+
+    def __init__(self, tables, basis, size, fence=None):
+        super().__init__(tables, basis, size, True, fence, True)
 
     def strengthen(self):
         if self.basis.polarity:
@@ -426,9 +429,9 @@ class Select(Formula):
 def formula_of(tables, basis, method, size, fence):
     if method == 'select':
         return Select(tables, basis, size)
-    if method == 'npn':
-        return Exchanging(tables, basis, size, True, fence, True)
-    return Pairs(tables, basis, size, method != 'plain', fence, method.startswith('strong'))
+    if method.startswith('strong'):
+        return Strong(tables, basis, size, fence)
+    return Pairs(tables, basis, size, method != 'plain', fence)
 
 
 # ---- certificates

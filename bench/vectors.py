@@ -4,8 +4,9 @@
 `specs/*Vectors.antt` of `enc_theory`, `strong_theory` and `npn_strong` have lines `vector N ON CARE BASIS SIZE VARS
 CLAUSES LITERALS CHECKSUM` (and `fenced`, with the fence after SIZE): a question, and the outline of its formula, which
 the prover compares with the definition of the encoding. This script computes each outline with the formulas of dimacs.py, which
-follow docs/FORMATS.md and share nothing with the definitions. It prints how many vectors of each file are the same, and
-each that isn't. With --write it puts the computed numbers into the files.
+follow docs/FORMATS.md and share nothing with the definitions. The vectors of `strong_theory` are of the formulas without
+the exchange cut, by which no method searches. It prints how many vectors of each file are the same, and each that isn't.
+With --write it puts the computed numbers into the files.
 
 Status 0; 1 where a vector differs, or for other arguments."""
 import os
@@ -16,7 +17,7 @@ sys.dont_write_bytecode = True
 import dimacs  # noqa: E402
 
 TOP = os.path.dirname(os.path.dirname(os.path.realpath(__file__)))
-FILES = {'Plain': 'plain', 'Ssv': 'ssv', 'Select': 'select', 'Fence': 'fence', 'Strong': 'strong', 'Npn': 'npn'}
+FILES = {'Plain': 'plain', 'Ssv': 'ssv', 'Select': 'select', 'Fence': 'fence', 'Strong': None, 'Npn': 'strong'}
 CRATES = {'Strong': 'strong_theory', 'Npn': 'npn_strong'}
 LIST = r'(\[\]|\((?:\d+ ∷ )*\[\]\))'
 LINE = re.compile(rf'\b(vector|fenced) (\d+) {LIST} {LIST} (\d+) (\d+)( {LIST})? (\d+ \d+ \d+ \d+)(?= *$)', re.MULTILINE)
@@ -44,7 +45,11 @@ def computed(method, line):
     ]
     basis = dimacs.Basis(','.join(f'{op:04b}' for op in range(16) if int(line[5]) >> op & 1))
     fence = tuple(numbers(line[7])) if line[1] == 'fenced' else None
-    formula = dimacs.formula_of(tables, basis, method, int(line[6]), fence)
+    size = int(line[6])
+    if method is None:
+        formula = dimacs.Pairs(tables, basis, size, True, fence, True)
+    else:
+        formula = dimacs.formula_of(tables, basis, method, size, fence)
     return line[0].removesuffix(line[9]) + ' '.join(map(str, outline(formula)))
 
 

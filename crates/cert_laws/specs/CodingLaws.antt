@@ -12,8 +12,8 @@ use Rattle.enc_laws.specs.Laws.{plain_complete, plain_is_formula}
 use Rattle.enc_laws.specs.Ssv.{ssv_complete, ssv_is_formula}
 use Rattle.enc_laws.specs.Select.{select_complete, select_is_formula}
 use Rattle.enc_laws.specs.Fence.{fence_is_formula}
-use Rattle.strong_laws.specs.Whole.{strong_complete, strong_is_formula}
-use Rattle.strong_laws.specs.Fences.{strong_fence_is_formula, strong_is_complete}
+use Rattle.npn_strong.specs.Whole.{npn_complete, npn_is_formula}
+use Rattle.npn_strong.specs.Fences.{npn_fence_is_formula, npn_is_complete}
 use Rattle.fence_core.specs.Fence.{IsFenceOf, listed_fences}
 use Rattle.fence_core.specs.Listing.{sum-cons, fences_are_listed}
 use Rattle.tt_core.specs.Live.{live_words}
@@ -69,8 +69,8 @@ select_is_coding = record {
 pub strong_is_coding : IsCoding strong_coding
 strong_is_coding = record {
   fence_names = λ w r subproblem few there. whole_name subproblem there;
-  formulas = λ w basis r subproblem there. strong_is_formula w basis r;
-  complete = λ w basis r minimum. (Whole, the_whole, strong_complete w basis r minimum);
+  formulas = λ w basis r subproblem there. npn_is_formula w basis r;
+  complete = λ w basis r minimum. (Whole, the_whole, npn_complete w basis r minimum);
 }
 
 -- the levels of a fence have no more steps than the fence
@@ -111,8 +111,8 @@ fence_is_coding = record {
 pub strong_fence_is_coding : IsCoding strong_fence_coding
 strong_fence_is_coding = record {
   fence_names = λ w r subproblem few there. fence_name w r subproblem few there;
-  formulas = λ w basis r subproblem there. strong_fence_is_formula w basis r (fence_in subproblem);
-  complete = λ w basis r minimum. strong_is_complete w basis r minimum;
+  formulas = λ w basis r subproblem there. npn_fence_is_formula w basis r (fence_in subproblem);
+  complete = λ w basis r minimum. npn_is_complete w basis r minimum;
 }
 
 -- so the verdicts of each method are true

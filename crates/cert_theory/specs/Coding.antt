@@ -7,7 +7,7 @@ use Rattle.enc_theory.specs.Ssv.{ssv_formula}
 use Rattle.enc_theory.specs.Select.{select_formula}
 use Rattle.enc_theory.specs.Fence.{fence_formula}
 use Rattle.enc_theory.specs.Subproblems.{subproblems_for, fence_in}
-use Rattle.strong_theory.specs.Strong.{strong_formula, strong_fence_formula}
+use Rattle.npn_strong.specs.Cut.{npn_formula, npn_fence_formula}
 use Rattle.enc_theory.specs.declared.subproblem.Subproblem.{Subproblem}
 use Rattle.enc_theory.specs.declared.subproblem.Subproblem.TheVariants.{Whole}
 use Rattle.settings.specs.declared.methods.Method.{Method}
@@ -36,12 +36,12 @@ fence_coding = record {
 }
 
 abbrev pub strong_coding : Coding
-strong_coding = record { subproblems = λ w r. Whole ∷ []; formula = λ w basis r subproblem. strong_formula w basis r }
+strong_coding = record { subproblems = λ w r. Whole ∷ []; formula = λ w basis r subproblem. npn_formula w basis r }
 
 abbrev pub strong_fence_coding : Coding
 strong_fence_coding = record {
   subproblems = λ w r. subproblems_for w r;
-  formula = λ w basis r subproblem. strong_fence_formula w basis r (fence_in subproblem);
+  formula = λ w basis r subproblem. npn_fence_formula w basis r (fence_in subproblem);
 }
 
 -- only the methods by fences name their subproblems

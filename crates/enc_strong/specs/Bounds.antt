@@ -1,17 +1,20 @@
 -- Edges are of rows, and they, their variables and the further clauses are few enough for a formula.
-use Rattle.std.specs.Prelude.{◌≡◌, ℕ, ◌+◌, ◌*◌, ◌^◌, ◌≤◌, ◌<◌, Bool, true, false, List, [], ◌∷◌, ◌++◌, All, length, if◌then◌else◌}
+use Rattle.std.specs.Prelude.{◌≡◌, ℕ, suc, ◌+◌, ◌-◌, ◌*◌, ◌^◌, ◌≤◌, ◌<◌, Bool, true, false, not, ◌&&◌, List, [], ◌∷◌, ◌++◌, All, length, if◌then◌else◌}
 use Rattle.std.specs.List.{range_with_len, flat_map}
 use Rattle.std.proofs.Common.{arith, length-append, subst, sym, get_or}
 use Rattle.std.proofs.lemmas.List.Elements.{Contains-get_or}
+use Rattle.op_basis.specs.Basis.{members}
+use Rattle.op_basis.specs.Closed.{polarity_closed}
 use Rattle.tt_core.specs.Words.{Words}
 use Rattle.chain_theory.specs.Limits.{most_steps, most_inputs}
+use Rattle.clause_core.specs.declared.raw.RawLit.{RawLit}
 use Rattle.clause_core.specs.Clauses.{written}
 use Rattle.clause_core.specs.CountLaws.{flat_map-few, pieces-few, written-few, times-few}
 use Rattle.enc_theory.specs.declared.data.Dimensions.{Dimensions}
 use Rattle.enc_theory.specs.declared.data.Slot.{Slot}
 use Rattle.enc_theory.specs.Pairs.{StepSlots, slot_count}
 use Rattle.enc_theory.specs.Families.{common}
-use Rattle.enc_theory.specs.Cuts.{reads, not_both, cuts}
+use Rattle.enc_theory.specs.Cuts.{reads, reads_without, readers_without, not_both, may_exchange, exchange_slot, exchange_steps, cuts}
 use Rattle.enc_base.specs.Room.{IsSmall, IsSlot, HasRoom, HasSlots}
 use Rattle.enc_base.specs.BoundLaws.{rows_few}
 use Rattle.enc_cuts.specs.Counts.{if-few, both-few}
@@ -20,6 +23,7 @@ use Rattle.strong_theory.specs.Edges.{edge, is_edge, raised, edge_at, edges_alon
 use Rattle.strong_theory.specs.Strong.{precedes, one_of, one_pair_slot, one_pair_step, one_pair, value_differs, values_differ}
 use Rattle.strong_theory.specs.Strong.{operand_differs, sole_reader, or_others, edge_step, edge_steps, differences}
 use Rattle.strong_laws.specs.EdgeLaws.{edges_are}
+use Rattle.npn_strong.specs.Cut.{may_exchange_complemented, npn_pair, npn_with, npn_exchange}
 use Rattle.enc_strong.specs.Room.{HasRows}
 
 -- ---- edges
@@ -70,7 +74,39 @@ more_room z few many low below room = record { small = room.small; first = let f
 pub edge_vars-few : (count r : ℕ) → count ≤ 384 → r ≤ most_steps → count * r ≤ 6144
 edge_vars-few count r low few = omega (arith, times-few count r 384 16 low few)
 
--- ---- clauses
+-- ---- clauses of the exchange cut
+
+exchange_slot-few : (p q : ℕ) (before : List RawLit) (u : Slot) → length (exchange_slot p q before u) ≤ 1
+unfolding exchange_slot
+exchange_slot-few p q before u = if-few (reads_without q p u) (written _) 1 (written-few _)
+
+exchange_steps-few : (p q : ℕ) (before : List RawLit) (steps : List StepSlots) → length (exchange_steps p q before steps) ≤ slot_count steps
+unfolding exchange_steps slot_count
+exchange_steps-few p q before [] = omega arith
+exchange_steps-few p q before (s ∷ later) =
+    let own = pieces-few (exchange_slot p q before) 1 s.slots (λ u. exchange_slot-few p q before u) in
+    rw length-append (omega (arith, own, exchange_steps-few p q (before ++ readers_without p q s) later))
+
+npn_pair-few : (w : Words) (steps : List StepSlots) (p q : ℕ) → slot_count steps ≤ 16000 → length (npn_pair w steps p q) ≤ 16000
+unfolding npn_pair
+npn_pair-few w steps p q few = if-few (may_exchange_complemented w p q && not (may_exchange w p q)) (exchange_steps p q [] steps) 16000
+    (omega (arith, exchange_steps-few p q [] steps))
+
+npn_with-few : (w : Words) (steps : List StepSlots) (p : ℕ) → w.n ≤ most_inputs → slot_count steps ≤ 16000 → length (npn_with w steps p) ≤ 96000
+unfolding npn_with
+npn_with-few w steps p inputs few =
+    let all : length (flat_map (npn_pair w steps p) (range_with_len (suc p) (w.n - p))) ≤ (w.n - p) * 16000 =
+    flat_map-few (npn_pair w steps p) 16000 (suc p) (w.n - p) (λ q low high. npn_pair-few w steps p q few) in
+    omega (arith, all)
+
+npn_exchange-few : (basis : ℕ) (w : Words) (steps : List StepSlots) → w.n ≤ most_inputs → slot_count steps ≤ 16000 → length (npn_exchange basis w steps) ≤ 576000
+unfolding npn_exchange
+npn_exchange-few basis w steps inputs few =
+    let all : length (flat_map (npn_with w steps) (range_with_len 1 w.n)) ≤ w.n * 96000 =
+    flat_map-few (npn_with w steps) 96000 1 w.n (λ p low high. npn_with-few w steps p inputs few) in
+    if-few (polarity_closed (members basis)) (flat_map (npn_with w steps) (range_with_len 1 w.n)) 576000 (omega (arith, all))
+
+-- ---- further clauses
 
 one_pair_step-few : (s : StepSlots) → length s.slots ≤ 16000 → length (one_pair_step s) ≤ length s.slots * 16000
 unfolding one_pair_step one_pair_slot one_of not_both
@@ -117,7 +153,15 @@ differences-few z steps before (e ∷ es) few slots = rw length-append (omega (a
 
 -- The clauses of a stronger formula are few enough.
 pub strong-few : (w : Words) (basis : ℕ) (z : Dimensions) (steps : List StepSlots) (before : ℕ) → IsSmall z → w.n ≤ most_inputs → length steps ≤ most_steps →
-    slot_count steps ≤ 16000 → length (common w basis z steps ++ cuts w basis z steps ++ (one_pair steps ++ differences z steps before (edges w))) ≤ 1000000000
+    slot_count steps ≤ 16000 → length (common w basis z steps ++ cuts w basis z steps ++ npn_exchange basis w steps ++
+    (one_pair steps ++ differences z steps before (edges w))) ≤ 1000000000
 strong-few w basis z steps before small inputs few slots =
     let both : length (common w basis z steps) + length (cuts w basis z steps) ≤ 610000000 = rw length-append at (both-few w basis z steps small inputs few slots) in
-    rw (length-append, length-append, length-append) (omega (arith, both, one_pair-few steps slots, differences-few z steps before (edges w) few slots, edges-few w inputs))
+    rw (length-append, length-append, length-append, length-append) (omega (
+      arith,
+      both,
+      npn_exchange-few basis w steps inputs slots,
+      one_pair-few steps slots,
+      differences-few z steps before (edges w) few slots,
+      edges-few w inputs,
+    ))

@@ -7,11 +7,13 @@ ghost use Rattle.enc_theory.specs.Cuts.{cuts};
 ghost use Rattle.enc_theory.specs.Pairs.{StepSlots as Slots};
 ghost use Rattle.enc_base.specs.Room.{HasRoom, HasSlots, AreFor};
 ghost use Rattle.strong_theory.specs.Strong.{one_pair, differences};
+ghost use Rattle.npn_strong.specs.Cut.{npn_exchange};
 ghost use Rattle.enc_strong.specs.Formula.{live_strong, strong_with};
 ghost use Rattle.enc_strong.specs.Room.{HasRows};
 
 use crate::differences::push_differences;
 use crate::edges::edges;
+use crate::exchange::push_npn_exchange;
 use crate::one_pair::push_one_pair;
 use clause_core::ClauseList;
 use cnf_core::Cnf;
@@ -36,7 +38,7 @@ fn with_edges(z: Dimensions, vars: u32, count: usize) -> u32
     vars + count as u32 * z.r
 }
 
-/// Appends the clauses that define chains, the constraints and the further clauses.
+/// Appends the clauses that define chains, the constraints, those of the exchange cut and the further clauses.
 #[tactic(auto, using(crate::proofs::Pieces::families))]
 fn push_all(
     alloc: Global,
@@ -54,10 +56,12 @@ fn push_all(
     requires edges { All (HasRows z) edges.now }
     requires vars { before + length edges.now * z.r ≤ list.old.vars }
     ensures { OnOk result (Appends list.old list.new (common live.now basis z steps.now ++
-        cuts live.now basis z steps.now ++ (one_pair steps.now ++ differences z steps.now before edges.now))) }
+        cuts live.now basis z steps.now ++ npn_exchange basis live.now steps.now ++
+        (one_pair steps.now ++ differences z steps.now before edges.now))) }
 {
     push_common(alloc, list, live, basis, z, steps)?;
     push_cuts(alloc, list, live, basis, z, steps)?;
+    push_npn_exchange(alloc, list, live, basis, steps)?;
     push_one_pair(alloc, list, steps)?;
     push_differences(alloc, list, z, steps, before, edges)
 }
@@ -65,7 +69,7 @@ fn push_all(
 /// The formula for tables whose outputs are all live.
 #[tactic(auto, using(crate::proofs::Pieces::limits), // for the prover
 unfolding(crate::specs::Formula::live_strong, strong_theory::specs::Strong::strengthened, // for the prover
-enc_cuts::specs::Formula::live_with_cuts))]
+npn_strong::specs::Cut::with_exchanges, enc_cuts::specs::Formula::live_with_cuts))]
 fn live_formula<P: Pairs>(
     alloc: Global,
     live: &Spec,

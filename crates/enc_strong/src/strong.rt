@@ -1,5 +1,5 @@
-//! SSV strengthened: one formula for a size. What satisfies it satisfies the formula of SSV, so it spells that
-//! encoding's chain.
+//! SSV strengthened, with the exchange cut: one formula for a size. What satisfies it satisfies the formula of SSV, so
+//! it spells that encoding's chain.
 use crate::formula::formula_over;
 use chain_core::Chain;
 use cnf_core::{Assign, Cnf};
@@ -10,8 +10,8 @@ use op_basis::Basis;
 use std::alloc::{AllocError, Global};
 use tt_core::Spec;
 
-/// The formula of SSV with at most one pair a step, and the steps that differ on each edge of the tables. A size has
-/// one subproblem, the whole.
+/// The formula of SSV with the exchange cut with complements, at most one pair a step, and the steps that differ on
+/// each edge of the tables. A size has one subproblem, the whole.
 #[derive(Clone, Copy)]
 pub struct Strong;
 
@@ -19,16 +19,16 @@ impl Encoding for Strong {
     ghost use Rattle.std.specs.Prelude.{[], ◌∷◌};
     ghost use Rattle.enc_theory.specs.declared.subproblem.Subproblem.TheVariants.{Whole};
     ghost use Rattle.enc_laws.specs.WholeLaws.{the_whole};
-    ghost use Rattle.strong_theory.specs.Strong.{strong_formula};
-    ghost use Rattle.strong_laws.specs.Whole.{strong_sound, strong_complete};
+    ghost use Rattle.npn_strong.specs.Cut.{npn_formula};
+    ghost use Rattle.npn_strong.specs.Whole.{npn_sound, npn_complete};
 
     ghost subproblems_of = { λ strong w r. Whole ∷ [] };
 
-    ghost formula_of = { λ strong w basis r subproblem. strong_formula w basis r };
+    ghost formula_of = { λ strong w basis r subproblem. npn_formula w basis r };
 
-    ghost sound = { λ strong w basis r subproblem there sat. strong_sound w basis r sat };
+    ghost sound = { λ strong w basis r subproblem there sat. npn_sound w basis r sat };
 
-    ghost complete = { λ strong w basis r least. (Whole, the_whole, strong_complete w basis r least) };
+    ghost complete = { λ strong w basis r least. (Whole, the_whole, npn_complete w basis r least) };
 
     fn subproblems(
         &self,

@@ -1,5 +1,5 @@
-//! The encoding by fences strengthened: one formula for each listed fence. What satisfies it satisfies the fence's
-//! formula, so it spells that encoding's chain.
+//! The encoding by fences strengthened, with the exchange cut: one formula for each listed fence. What satisfies it
+//! satisfies the fence's formula, so it spells that encoding's chain.
 
 use crate::formula::formula_over;
 use chain_core::Chain;
@@ -11,23 +11,23 @@ use op_basis::Basis;
 use std::alloc::{AllocError, Global};
 use tt_core::Spec;
 
-/// The formulas of fences with at most one pair a step, and the steps that differ on each edge of the tables. A size
-/// has one subproblem for each listed fence of the live outputs, in lexicographic order.
+/// The formulas of fences with the exchange cut with complements, at most one pair a step, and the steps that differ on
+/// each edge of the tables. A size has one subproblem for each listed fence of the live outputs, in lexicographic order.
 #[derive(Clone, Copy)]
 pub struct StrongFence;
 
 impl Encoding for StrongFence {
     ghost use Rattle.enc_theory.specs.Subproblems.{subproblems_for, fence_in};
-    ghost use Rattle.strong_theory.specs.Strong.{strong_fence_formula};
-    ghost use Rattle.strong_laws.specs.Fences.{strong_is_sound, strong_is_complete};
+    ghost use Rattle.npn_strong.specs.Cut.{npn_fence_formula};
+    ghost use Rattle.npn_strong.specs.Fences.{npn_is_sound, npn_is_complete};
 
     ghost subproblems_of = { λ encoding w r. subproblems_for w r };
 
-    ghost formula_of = { λ encoding w basis r subproblem. strong_fence_formula w basis r (fence_in subproblem) };
+    ghost formula_of = { λ encoding w basis r subproblem. npn_fence_formula w basis r (fence_in subproblem) };
 
-    ghost sound = { λ encoding w basis r subproblem. strong_is_sound w basis r subproblem };
+    ghost sound = { λ encoding w basis r subproblem. npn_is_sound w basis r subproblem };
 
-    ghost complete = { λ encoding w basis r. strong_is_complete w basis r };
+    ghost complete = { λ encoding w basis r. npn_is_complete w basis r };
 
     fn subproblems(
         &self,

@@ -29,6 +29,9 @@ fn strong_formula(
     }
 }
 
+/// The majority of the second input and the complements of the others.
+const MAJORITY: &[u8] = b"inputs 3\n10110010\n";
+
 /// Formulas of sizes and of fences, with the numbers of variables and clauses and the checksums of another program.
 const SUMS: &[(&str, &[u8], &[u8], u32, Option<usize>, u32, usize, u32)] = &[
     ("one output", LIGHTS, b"all", 3, None, 157, 3721, 4048646189),
@@ -91,6 +94,36 @@ const SUMS: &[(&str, &[u8], &[u8], u32, Option<usize>, u32, usize, u32)] = &[
         193,
         3185,
         2099757771,
+    ),
+    (
+        "inputs exchanged with complements",
+        MAJORITY,
+        b"all",
+        3,
+        None,
+        88,
+        1356,
+        2480571824,
+    ),
+    (
+        "the same in a fence",
+        MAJORITY,
+        b"all",
+        3,
+        Some(1),
+        78,
+        895,
+        4198320329,
+    ),
+    (
+        "no complements in the basis",
+        MAJORITY,
+        b"bench",
+        3,
+        None,
+        88,
+        1313,
+        1989105324,
     ),
     ("NAND alone", XOR, b"nand", 4, None, 86, 1066, 717816366),
     (

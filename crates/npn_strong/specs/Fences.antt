@@ -1,18 +1,23 @@
 -- The laws of the formulas by fences, strengthened, with the exchange cut.
-use Rattle.std.proofs.Common.{ℕ, ◌<◌, ◌≤◌, List, length, ◌∙◌, subst}
+use Rattle.std.proofs.Common.{ℕ, ◌<◌, ◌≤◌, List, length, Contains, ◌∙◌, subst}
 use Rattle.chain_theory.specs.Chain.{Chain}
 use Rattle.chain_theory.specs.Agreement.{HasChain, IsMinimum}
 use Rattle.chain_theory.specs.Levels.{HasLevels, HasChainOfLevels}
 use Rattle.op_basis.specs.Basis.{members}
 use Rattle.op_basis.specs.Closed.{swap_closed}
-use Rattle.fence_core.specs.Fence.{IsFenceOf}
+use Rattle.fence_core.specs.Fence.{IsFenceOf, listed_fences}
+use Rattle.fence_core.specs.Listing.{fences_are_listed}
 use Rattle.chain_laws.specs.Least.{levels_at_most_steps}
 use Rattle.chain_laws.specs.Fences.{HasFencedChain}
 use Rattle.sat_theory.specs.Formula.{IsFormula, Assignment, Satisfies}
 use Rattle.tt_core.specs.Words.{Words, specification}
 use Rattle.tt_core.specs.Live.{live_words}
 use Rattle.clause_core.specs.Clauses.{IsSatisfiable}
+use Rattle.clause_core.specs.Holds.{contains_map}
 use Rattle.enc_theory.specs.declared.data.Dimensions.{Dimensions}
+use Rattle.enc_theory.specs.declared.subproblem.Subproblem.{Subproblem}
+use Rattle.enc_theory.specs.declared.subproblem.Subproblem.TheVariants.{Levels}
+use Rattle.enc_theory.specs.Subproblems.{subproblems_for, fence_in}
 use Rattle.enc_theory.specs.Numbering.{sizes_of}
 use Rattle.enc_theory.specs.Fence.{fence_pairs, fence_layout, fence_live, fence_formula}
 use Rattle.enc_laws.specs.Live.{picked}
@@ -111,3 +116,19 @@ pub npn_fence_is_formula : (w : Words) (basis r : ℕ) (fence : List ℕ) → Is
 unfolding npn_fence_formula npn_fence_live fence_live
 npn_fence_is_formula w basis r fence = cut_is_formula (fence_pairs (swap_closed (members basis)) w.n fence) w basis r
     (fence_pairs_are_below (swap_closed (members basis)) w.n fence)
+
+-- ---- as the trait of encodings states them
+
+pub npn_is_sound : (w : Words) (basis r : ℕ) (subproblem : Subproblem) → Contains (subproblems_for w r) subproblem →
+    IsSatisfiable (npn_fence_formula w basis r (fence_in subproblem)) → HasChain (specification w) (members basis) r
+npn_is_sound w basis r subproblem there sat = npn_fence_sound w basis r (fence_in subproblem) sat
+
+-- if r is the minimum size, the formula of some listed fence of r steps is satisfiable
+pub npn_is_complete : (w : Words) (basis r : ℕ) → IsMinimum (specification w) (members basis) r →
+    (subproblem : Subproblem) × Contains (subproblems_for w r) subproblem ×
+    IsSatisfiable (npn_fence_formula w basis r (fence_in subproblem))
+unfolding subproblems_for fence_in
+npn_is_complete w basis r least =
+    let found : HasNpnFence w basis r r = npn_fence_complete w basis r least in
+    let m : ℕ = length (live_words w).on in
+    (Levels found.fence, contains_map Levels (listed_fences r m) found.fence ((fences_are_listed r m).all found.fence found.listed), found.satisfiable)

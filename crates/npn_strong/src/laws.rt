@@ -43,8 +43,8 @@ pub fn exchange_clauses_ask_for_the_cut()
         Satisfies v (npn_fence_formula w basis r fence) → Satisfies v (fence_formula w basis r fence) }
 {}
 
-/// The formula of SSV, strengthened, with the cut: if it is satisfiable, a chain of r steps implements the tables; if r
-/// is the minimum size of such a chain, it is satisfiable.
+/// The formula by `strong`, that of SSV, strengthened, with the cut: if it is satisfiable, a chain of r steps implements
+/// the tables; if r is the minimum size of such a chain, it is satisfiable.
 pub fn npn_asks_for_a_least_chain()
     ensures formula { (w : Words) (basis r : ℕ) → IsFormula (npn_formula w basis r) }
     ensures sound { (w : Words) (basis r : ℕ) → IsSatisfiable (npn_formula w basis r) →
@@ -53,8 +53,9 @@ pub fn npn_asks_for_a_least_chain()
         IsSatisfiable (npn_formula w basis r) }
 {}
 
-/// The same for fences: if a fence's formula is satisfiable, a chain of r steps and at most the fence's levels
-/// implements the tables; if r is the minimum size, the formula of a listed fence of r steps is satisfiable.
+/// The same for fences, by `strong-fence`: if a fence's formula is satisfiable, a chain of r steps and at most the
+/// fence's levels implements the tables; if r is the minimum size, the formula of a listed fence of r steps is
+/// satisfiable.
 pub fn npn_fences_ask_for_a_least_chain()
     ensures formula { (w : Words) (basis r : ℕ) (fence : List ℕ) → IsFormula (npn_fence_formula w basis r fence) }
     ensures sound { (w : Words) (basis r : ℕ) (fence : List ℕ) → IsSatisfiable (npn_fence_formula w basis r fence) →

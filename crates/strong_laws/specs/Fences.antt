@@ -1,4 +1,4 @@
--- The laws of `strong-fence`.
+-- The laws of the formulas of fences, strengthened.
 use Rattle.std.proofs.Common.{ℕ, ◌<◌, ◌≤◌, List, length, Contains, ◌∙◌, subst}
 use Rattle.chain_theory.specs.Agreement.{HasChain, IsMinimum}
 use Rattle.chain_theory.specs.Levels.{HasLevels, HasChainOfLevels}

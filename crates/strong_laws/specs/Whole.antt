@@ -1,4 +1,4 @@
--- The laws of `strong`, and what both methods share.
+-- The laws of the formula of SSV, strengthened, and what fences share.
 use Rattle.std.proofs.Common.{◌≡◌, ℕ, List, true}
 use Rattle.chain_theory.specs.Chain.{Chain}
 use Rattle.chain_theory.specs.Agreement.{HasChain, IsMinimum}

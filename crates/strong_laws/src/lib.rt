@@ -10,7 +10,8 @@
 //!   hold where an assignment says the chain and its differences. `specs/Strengthened.antt`: so does the extension
 //!   of the chain's assignment.
 //! - `specs/StrongClauses.antt`: they are clauses of a formula.
-//! - `specs/Whole.antt`, `specs/Fences.antt`: the laws of `strong` and of `strong-fence`.
+//! - `specs/Whole.antt`, `specs/Fences.antt`: the laws of the formulas of SSV and of fences, strengthened. The methods
+//!   `strong` and `strong-fence` add the exchange cut, with laws of their own (`npn_strong`).
 #![tactic(auto)]
 
 pub mod laws;
