@@ -1,5 +1,7 @@
 -- How a run ends, by the formats that its words ask for.
-use Rattle.std.specs.Prelude.{◌⊎◌, ℕ, List}
+use Rattle.std.specs.Prelude.{◌⊎◌, ℕ, List, Option, Some, None}
+use Rattle.command_line.specs.declared.command.Command.{Command}
+use Rattle.command_line.specs.CommandLine.{command_of}
 use Rattle.format_words.specs.declared.asking.FormatsAsked.{FormatsAsked}
 use Rattle.format_words.specs.declared.asking.FormatsAsked.TheVariants.{Own, ImproveAiger, Compare}
 use Rattle.format_words.specs.FormatsAsked.{asked_of, plain_words}
@@ -22,7 +24,15 @@ promises_of (Compare formats) = promised_by KeepsPromises KeepsNamed (KeepsCompa
 abbrev pub with_words : List (List ℕ) → FrontRun → FrontRun
 with_words words r = front_run words r.files r.source r.out r.note r.status
 
--- Memory ran out before the words were read; or the run is that of the words without formats, with what is promised for the
--- formats that they ask for.
+-- A run of words that may ask for formats: memory ran out before they were read; or the run is that of the words without
+-- formats, with what is promised for the formats that they ask for.
+abbrev pub IsFormatted : FrontRun → Type 0
+IsFormatted r = Reports memory Memory r ⊎ IsGuided (promises_of (asked_of r.words)) (with_words (plain_words r.words) r)
+
+-- By the command that the words are to the program over streams, if they are one: such words ask for no format.
+abbrev pub IsFrontedBy : Option Command → FrontRun → Type 0
+IsFrontedBy (Some command) r = IsGuided (promises_of Own) r
+IsFrontedBy None r = IsFormatted r
+
 abbrev pub IsFronted : FrontRun → Type 0
-IsFronted r = Reports memory Memory r ⊎ IsGuided (promises_of (asked_of r.words)) (with_words (plain_words r.words) r)
+IsFronted r = IsFrontedBy (command_of r.words) r

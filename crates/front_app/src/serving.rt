@@ -8,11 +8,12 @@ ghost use Rattle.front_core.specs.Front.{front_run, promised_by};
 ghost use Rattle.front_guide.specs.Guided.{IsGuided};
 ghost use Rattle.front_app.specs.Aiger.{KeepsAiger};
 ghost use Rattle.front_app.specs.Comparison.{pair_of, blif_pair, KeepsComparison};
-ghost use Rattle.front_app.specs.Fronted.{promises_of, IsFronted};
+ghost use Rattle.front_app.specs.Fronted.{promises_of, IsFormatted, IsFronted};
 ghost use Rattle.front_app.specs.Named.{KeepsNamed};
 
 use crate::formats::{InAiger, InBench, InBlif, KnownFormat};
 use crate::programs::{OverAiger, Strict};
+use command_line::read_words;
 use file_io::Outside;
 use format_names::{FormatPair, NetFormat};
 use format_words::{FormatsAsked, read_formats};
@@ -180,11 +181,9 @@ fn guide_asked<W: Outside, S: Recalls, O: Sink, N: Retells, R: Rereads, T: Tell>
     }
 }
 
-/// Runs the command that the words ask for: over the files that they name, or else over `source` and `out`. A report,
-/// and one error line if there is no answer, go to `note`; after the error line comes one for people. Words that ask
-/// for help get a page. Who is told of the progress has no say in any of this.
+/// Runs the command of words that may ask for formats.
 #[tactic(auto, using(crate::proofs::Fronting::fronting))]
-pub fn serve<W: Outside, S: Recalls, O: Sink, N: Retells, R: Rereads, T: Tell>(
+fn serve_formats<W: Outside, S: Recalls, O: Sink, N: Retells, R: Rereads, T: Tell>(
     alloc: Global,
     words: &Vec<String>,
     outside: &mut W,
@@ -194,7 +193,7 @@ pub fn serve<W: Outside, S: Recalls, O: Sink, N: Retells, R: Rereads, T: Tell>(
     reader: &R,
     tell: &T,
 ) -> Status
-    ensures { IsFronted (front_run (spelled words.now)
+    ensures { IsFormatted (front_run (spelled words.now)
         (files_before_after W.holds W.faults outside.old outside.new)
         (before_after S.left S.faults source.old source.new)
         (before_after O.written O.faults out.old out.new)
@@ -214,4 +213,40 @@ pub fn serve<W: Outside, S: Recalls, O: Sink, N: Retells, R: Rereads, T: Tell>(
     guide_asked(
         alloc, asked, plain, outside, source, out, note, reader, tell,
     )
+}
+
+/// Runs the command that the words ask for: over the files that they name, or else over `source` and `out`. A report,
+/// and one error line if there is no answer, go to `note`; after the error line comes one for people. Words that ask
+/// for help get a page. Who is told of the progress has no say in any of this.
+pub fn serve<W: Outside, S: Recalls, O: Sink, N: Retells, R: Rereads, T: Tell>(
+    alloc: Global,
+    words: &Vec<String>,
+    outside: &mut W,
+    source: &mut S,
+    out: &mut O,
+    note: &mut N,
+    reader: &R,
+    tell: &T,
+) -> Status
+    ensures { IsFronted (front_run (spelled words.now)
+        (files_before_after W.holds W.faults outside.old outside.new)
+        (before_after S.left S.faults source.old source.new)
+        (before_after O.written O.faults out.old out.new)
+        (before_after N.written N.faults note.old note.new)
+        result) }
+{
+    match read_words(words) {
+        Ok(_) => guide_asked(
+            alloc,
+            FormatsAsked::Own,
+            words,
+            outside,
+            source,
+            out,
+            note,
+            reader,
+            tell,
+        ),
+        Err(_) => serve_formats(alloc, words, outside, source, out, note, reader, tell),
+    }
 }
