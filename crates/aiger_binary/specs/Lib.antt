@@ -1,0 +1,7 @@
+pub use Rattle.text_core.specs.Lines
+pub mod Options
+pub mod Codes
+pub mod Cut
+pub mod Header
+pub mod Low
+pub mod Ascii
