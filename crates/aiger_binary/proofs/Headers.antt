@@ -17,10 +17,25 @@ pub ruleset headers = (common_steps, count_low)
 sum_is : (c : Counts) → is_packed c ≡ true → c.variables ≡ c.inputs + c.latches + c.gates
 sum_is c e = eqb-true c.variables (c.inputs + c.latches + c.gates) e
 
+pub two_low : (c : Counts) → AreLow c → c.inputs + c.latches < 2 ^ 32
+two_low c low = omega (arith, low.inputs, low.latches)
+
+pub three_low : (c : Counts) → AreLow c → c.inputs + c.latches + c.gates < 2 ^ 32
+three_low c low = omega (arith, low.inputs, low.latches, low.gates)
+
+pub one_low : (c : Counts) → AreLow c → 1 + c.inputs < 2 ^ 32
+one_low c low = omega (arith, low.inputs)
+
+pub first_low : (c : Counts) → AreLow c → 1 + c.inputs + c.latches < 2 ^ 32
+first_low c low = omega (arith, low.inputs, low.latches)
+
+pub inputs_low : (c : Counts) → AreLow c → c.inputs ≤ most_count
+inputs_low c low = low.inputs
+
 pub latches_low : (c : Counts) → AreLow c → is_packed c ≡ true → 1 + c.inputs + c.latches ≤ most_count + 1
 latches_low c low e = omega (arith, low.variables, sum_is c e)
 
 pub gates_low : (c : Counts) → AreLow c → is_packed c ≡ true → 1 + c.inputs + c.latches + c.gates ≤ most_count + 1
 gates_low c low e = omega (arith, low.variables, sum_is c e)
 
-pub ruleset sums = (common_steps, latches_low, gates_low)
+pub ruleset sums = (common_steps, two_low, three_low, one_low, first_low, inputs_low, latches_low, gates_low)

@@ -1,12 +1,12 @@
 -- The binary form of AIGER (the AIGER 1.9 report), by the ASCII text of the same file. The inputs are the variables from 1
 -- on, then come the latches and the gates. So a binary text has no lines of inputs, and its latches have no literals. A gate
 -- is two numbers: by how much its first fanin is below its literal, and its second fanin below the first. The lines of
--- outputs and all that follows the gates are as in the ASCII form. A text that isn't of the binary form stands for one that
+-- outputs and the symbols are as in the ASCII form. A text that isn't of the binary form stands for one that
 -- isn't of the ASCII form, and whose first fault is in the line of the same input, latch, output, gate or symbol.
-use Rattle.std.specs.Prelude.{ℕ, zero, suc, ◌+◌, ◌-◌, ◌*◌, Bool, if◌then◌else◌, List, [], ◌∷◌, ◌++◌, Option, Some, None, codes, decimal}
+use Rattle.std.specs.Prelude.{ℕ, zero, suc, ◌+◌, ◌-◌, ◌*◌, Bool, false, ◌==◌, if◌then◌else◌, List, [], ◌∷◌, ◌++◌, Option, Some, None, codes, decimal}
 use Rattle.std.specs.Option.{is_some}
 use Rattle.std.proofs.Common.{drop}
-use Rattle.text_core.specs.Lines.{Line, line_bytes}
+use Rattle.text_core.specs.Lines.{Line, lines_of, line_bytes}
 use Rattle.text_core.specs.Words.{after}
 use Rattle.aiger_binary.specs.Options.{◌>>=◌}
 use Rattle.aiger_binary.specs.declared.header.Counts.{Counts}
@@ -63,11 +63,14 @@ pub record Fanins : Type 0 where
   pub second : ℕ
   pub rest : List ℕ
 
+abbrev pub fanins : ℕ → ℕ → List ℕ → Fanins
+fanins first second rest = record { first = first; second = second; rest = rest }
+
 -- The first fanin is below the gate's literal, the second one not above the first.
 -- Example: of the gate 6 the bytes 2 and 1 are the fanins 4 and 3.
 abbrev pub fanins_in : ℕ → List ℕ → Option Fanins
 fanins_in lit bytes = number_between 1 lit bytes >>= λ a. number_between 0 (lit - a.number) a.rest >>= λ b.
-    Some (record { first = lit - a.number; second = lit - a.number - b.number; rest = b.rest })
+    Some (fanins (lit - a.number) (lit - a.number - b.number) b.rest)
 
 -- the text ends before a gate that isn't one
 abbrev pub with_fanins : ℕ → List ℕ → Option Fanins → Stage
@@ -80,6 +83,18 @@ gate_in lit s = with_fanins lit s.text (fanins_in lit s.rest)
 unfoldable pub gates_in : ℕ → ℕ → Stage → Stage
 gates_in variable zero s = s
 gates_in variable (suc n) s = gates_in (variable + 1) n (gate_in (variable * 2) s)
+
+-- ---- symbols
+
+-- whether a line begins the comment, as ABC also writes it, without an LF after the `c`
+abbrev pub begins_comment : List ℕ → Bool
+begins_comment [] = false
+begins_comment (b ∷ bs) = b == 99
+
+-- the lines after the gates: symbols, up to the comment, of which the line `c` is left
+unfoldable pub tail_of : List Line → List ℕ
+tail_of [] = []
+tail_of (l ∷ ls) = if begins_comment l.text then codes "c" ++ 10 ∷ [] else line_bytes l ++ tail_of ls
 
 -- ---- texts
 
@@ -94,7 +109,7 @@ abbrev pub sections_in : Counts → Stage → Stage
 sections_in c s = gates_in (1 + c.inputs + c.latches) c.gates (outputs_in c.outputs (latches_in (1 + c.inputs) c.latches s))
 
 abbrev pub joined : Stage → List ℕ
-joined s = s.text ++ s.rest
+joined s = s.text ++ tail_of (lines_of s.rest)
 
 abbrev pub ascii_with : Counts → Cut → List ℕ
 ascii_with c h = if is_packed c then joined (sections_in c (begun c h)) else []

@@ -15,10 +15,13 @@ pub record Found : Type 0 where
   pub number : ℕ
   pub more : List (List ℕ)
 
+abbrev pub found : ℕ → List (List ℕ) → Found
+found number more = record { number = number; more = more }
+
 -- the count that is the first item
 abbrev pub first_count : List (List ℕ) → Option Found
 first_count [] = None
-first_count (x ∷ xs) = number_up_to most_count x >>= λ n. Some (record { number = n; more = xs })
+first_count (x ∷ xs) = number_up_to most_count x >>= λ n. Some (found n xs)
 
 abbrev pub counts_from : List (List ℕ) → Option Counts
 counts_from items = first_count items >>= λ m. first_count m.more >>= λ i. first_count i.more >>= λ l.

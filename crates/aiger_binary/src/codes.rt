@@ -18,7 +18,7 @@ pub(crate) struct Coded<'a> {
 #[tactic(auto, using(crate::proofs::Powers::powers), unfolding(crate::specs::Codes::number_in))]
 fn number_in(room: u32, bytes: &[u8]) -> Option<Coded<'_>>
     requires { room ≤ 4 }
-    ensures exact { option_map (λ (c : Coded). record { number = c.number; rest = c.rest.now }) result ≡
+    ensures exact { option_map (λ (c : Coded). spec.coded c.number c.rest.now) result ≡
         spec.number_in room bytes.now }
     ensures low { IfSome result (λ c. c.number < 128 ^ room) }
 {
@@ -41,7 +41,7 @@ fn number_in(room: u32, bytes: &[u8]) -> Option<Coded<'_>>
 
 /// The number that the bytes begin with, if it is between two bounds.
 pub(crate) fn number_between(least: u32, most: u32, bytes: &[u8]) -> Option<Coded<'_>>
-    ensures exact { option_map (λ (c : Coded). record { number = c.number; rest = c.rest.now }) result ≡
+    ensures exact { option_map (λ (c : Coded). spec.coded c.number c.rest.now) result ≡
         spec.number_between least most bytes.now }
     ensures low { IfSome result (λ c. c.number ≤ most) }
 {

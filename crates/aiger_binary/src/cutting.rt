@@ -14,8 +14,7 @@ pub(crate) struct FirstLine<'a> {
 /// The first line.
 #[tactic(auto, using(text_core::specs::Splits::splits), unfolding(crate::specs::Cut::cut_from))]
 pub(crate) fn first_line(bytes: &[u8]) -> FirstLine<'_>
-    ensures { record { line = record { text = result.text.now; ended = result.ended }; rest = result.rest.now } ≡
-        spec.cut_first bytes.now }
+    ensures { spec.cut_of result.text.now result.ended result.rest.now ≡ spec.cut_first bytes.now }
 {
     let mut at = 0;
     let mut left = bytes;

@@ -4,13 +4,14 @@ ghost use Rattle.std.specs.Prelude.{◌≡◌, ◌+◌, ◌≤◌, ◌++◌, [],
 ghost use Rattle.std.specs.Option.{is_some};
 ghost use Rattle.text_core.specs.Lines.{line_bytes};
 ghost use Rattle.aiger_binary.specs.Ascii as spec;
+ghost use Rattle.aiger_binary.specs.Cut.{line_of, cut_of};
 ghost use Rattle.aiger_binary.specs.Header.{is_packed as is_packed_by};
 ghost use Rattle.aiger_binary.specs.Low.{AreLow};
 
 use crate::cutting::{FirstLine, first_line};
 use crate::gates::push_gates;
 use crate::header::{Counts, counts_in, is_packed};
-use crate::sections::{push_inputs, push_latches, push_line, push_outputs};
+use crate::sections::{push_inputs, push_latches, push_line, push_outputs, push_tail};
 use std::alloc::{AllocError, Global};
 use text_core::after;
 
@@ -22,6 +23,7 @@ pub fn is_binary(bytes: &[u8]) -> bool
 }
 
 /// Adds a text with the first word of the ASCII form.
+#[tactic(auto, using(crate::proofs::Ends::ends))]
 fn push_renamed(out: &mut Vec<u8>, text: &[u8]) -> Result<(), AllocError>
     ensures { OnOk result (out.new.items ≡ out.old.items ++ spec.renamed text.now) }
 {
@@ -32,7 +34,7 @@ fn push_renamed(out: &mut Vec<u8>, text: &[u8]) -> Result<(), AllocError>
     Ok(())
 }
 
-/// Adds the lines of inputs, latches, outputs and gates, and the bytes after them.
+/// Adds the lines of inputs, latches, outputs, gates and symbols.
 #[tactic(auto, using(crate::proofs::Headers::sums))]
 fn push_sections(out: &mut Vec<u8>, counts: Counts, bytes: &[u8]) -> Result<(), AllocError>
     requires low { AreLow counts }
@@ -45,15 +47,12 @@ fn push_sections(out: &mut Vec<u8>, counts: Counts, bytes: &[u8]) -> Result<(), 
     let gates = push_outputs(out, counts.outputs, outputs)?;
     let first = 1 + counts.inputs + counts.latches;
     let symbols = push_gates(out, first, counts.gates, gates)?;
-    out.extend_from_slice(symbols)
+    push_tail(out, symbols)
 }
 
 /// The header's line with its LF, by the first word of the ASCII form.
 fn header_line(alloc: Global, header: FirstLine) -> Result<Vec<u8>, AllocError>
-    ensures { IfOk result (λ t. t.items ≡ spec.renamed (line_bytes (record {
-      text = header.text.now;
-      ended = header.ended;
-    }))) }
+    ensures { IfOk result (λ t. t.items ≡ spec.renamed (line_bytes (line_of header.text.now header.ended))) }
 {
     let mut line = Vec::new(alloc);
     push_line(&mut line, header.text, header.ended)?;
@@ -65,10 +64,8 @@ fn header_line(alloc: Global, header: FirstLine) -> Result<Vec<u8>, AllocError>
 /// The ASCII text of a binary one whose header has these counts.
 fn ascii_with(alloc: Global, counts: Counts, header: FirstLine) -> Result<Vec<u8>, AllocError>
     requires { AreLow counts }
-    ensures { IfOk result (λ t. t.items ≡ spec.ascii_with counts (record {
-      line = record { text = header.text.now; ended = header.ended };
-      rest = header.rest.now;
-    })) }
+    ensures { IfOk result (λ t. t.items ≡ spec.ascii_with counts
+        (cut_of header.text.now header.ended header.rest.now)) }
 {
     if !is_packed(counts) {
         return Ok(Vec::new(alloc));

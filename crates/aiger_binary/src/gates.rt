@@ -19,7 +19,7 @@ struct Fanins<'a> {
 
 /// The fanins of the gate of a literal, which the bytes begin with.
 fn fanins_in(literal: u32, bytes: &[u8]) -> Option<Fanins<'_>>
-    ensures { option_map (λ (f : Fanins). record { first = f.first; second = f.second; rest = f.rest.now }) result ≡
+    ensures { option_map (λ (f : Fanins). spec.fanins f.first f.second f.rest.now) result ≡
         spec.fanins_in literal bytes.now }
 {
     let below = number_between(1, literal, bytes)?;

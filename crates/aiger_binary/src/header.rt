@@ -31,7 +31,7 @@ struct Found<'a> {
 /// The count that is the first item of a text; None if there is none.
 #[tactic(auto, using(crate::proofs::Headers::headers))]
 fn first_count(items: Option<&[u8]>) -> Option<Found<'_>>
-    ensures exact { option_map (λ (f : Found). record { number = f.number; more = items_left f.more }) result ≡
+    ensures exact { option_map (λ (f : Found). spec.found f.number (items_left f.more)) result ≡
         spec.first_count (items_left items) }
     ensures low { IfSome result (λ f. f.number ≤ spec.most_count) }
 {
@@ -62,6 +62,7 @@ pub(crate) fn counts_in(text: &[u8]) -> Option<Counts>
 }
 
 /// Whether each variable is an input, a latch or a gate.
+#[tactic(auto, using(crate::proofs::Headers::sums))]
 pub(crate) fn is_packed(counts: Counts) -> bool
     requires { AreLow counts }
     ensures { result ≡ spec.is_packed counts }

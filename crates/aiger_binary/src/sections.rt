@@ -1,18 +1,19 @@
 //! The lines of inputs, latches and outputs.
 
 ghost use Rattle.std.specs.Prelude.{◌≡◌, ◌+◌, ◌≤◌, ◌++◌, [], OnOk, IfOk};
-ghost use Rattle.text_core.specs.Lines.{line_bytes};
+ghost use Rattle.text_core.specs.Lines.{line_bytes, lines_of};
 ghost use Rattle.aiger_binary.specs.Ascii as spec;
+ghost use Rattle.aiger_binary.specs.Cut.{line_of};
 ghost use Rattle.aiger_binary.specs.Header.{most_count};
 
 use crate::cutting::first_line;
 use std::alloc::AllocError;
-use text_core::push_number;
+use text_core::{next_line, push_number};
 
 /// Adds a line, with its LF if one ends it.
 pub(crate) fn push_line(out: &mut Vec<u8>, text: &[u8], ended: bool) -> Result<(), AllocError>
     ensures { OnOk result (out.new.items ≡
-        out.old.items ++ line_bytes (record { text = text.now; ended = ended })) }
+        out.old.items ++ line_bytes (line_of text.now ended)) }
 {
     out.extend_from_slice(text)?;
     if ended {
@@ -108,4 +109,32 @@ pub(crate) fn push_outputs<'a>(
         left -= 1;
     }
     Ok(rest)
+}
+
+/// Whether a line begins the comment.
+fn begins_comment(text: &[u8]) -> bool
+    ensures { result ≡ spec.begins_comment text.now }
+{
+    match text.first() {
+        Some(byte) => *byte == b'c',
+        None => false,
+    }
+}
+
+/// Adds the lines of symbols, and that of the comment.
+#[tactic(auto, unfolding(crate::specs::Ascii::tail_of))]
+pub(crate) fn push_tail(out: &mut Vec<u8>, bytes: &[u8]) -> Result<(), AllocError>
+    ensures { OnOk result (out.new.items ≡ out.old.items ++ spec.tail_of (lines_of bytes.now)) }
+{
+    let mut left = bytes;
+    while let Some((text, ended, rest)) = next_line(left) {
+        if begins_comment(text) {
+            out.push(b'c')?;
+            out.push(b'\n')?;
+            return Ok(());
+        }
+        push_line(out, text, ended)?;
+        left = rest;
+    }
+    Ok(())
 }

@@ -33,7 +33,12 @@ const PAIRS: &[(&str, &[u8], &[u8])] = &[
     (
         "symbols and a comment",
         b"aig 1 1 0 1 0\n3\ni0 a\no0 y\nc\nany\xff text",
-        b"aag 1 1 0 1 0\n2\n3\ni0 a\no0 y\nc\nany\xff text",
+        b"aag 1 1 0 1 0\n2\n3\ni0 a\no0 y\nc\n",
+    ),
+    (
+        "a comment as ABC's &write begins it",
+        b"aig 1 1 0 1 0\n3\ni0 a\ncn\x00\x00\x00\x02m\x00\nby ABC",
+        b"aag 1 1 0 1 0\n2\n3\ni0 a\nc\n",
     ),
     (
         "a number with a last byte of 0",
