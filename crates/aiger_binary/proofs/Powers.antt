@@ -1,5 +1,5 @@
 -- Numbers of at most four bytes fit in 32 bits.
-use Rattle.std.proofs.Common.{◌≡◌, ℕ, zero, suc, ◌+◌, ◌-◌, ◌*◌, ◌^◌, ◌≤◌, ◌<◌, refl, arith}
+use Rattle.std.proofs.Common.{◌≡◌, ℕ, zero, suc, ◌+◌, ◌-◌, ◌*◌, ◌%◌, ◌^◌, ◌≤◌, ◌<◌, refl, arith}
 use Rattle.std.proofs.lemmas.Grind.{common_steps}
 
 -- one byte more
@@ -27,11 +27,11 @@ byte_low room b some low = omega (arith, low, next_power room some, some_power (
 pub more_low : (room n : ℕ) → room ≤ 4 → n < 128 ^ (room - 1) → 128 * n < 2 ^ 31
 more_low room n few low = omega (arith, low, three_bytes (room - 1) (omega (arith, few)))
 
-pub sum_low : (room b n : ℕ) → room ≤ 4 → b < 2 ^ 8 → n < 128 ^ (room - 1) → b + 128 * n < 2 ^ 32
-sum_low room b n few byte low = omega (arith, byte, low, three_bytes (room - 1) (omega (arith, few)))
-
 -- a byte before others
-pub number_low : (room b n : ℕ) → (room ≡ 0 → ⊥) → b < 2 ^ 8 → n < 128 ^ (room - 1) → b - 128 + 128 * n < 128 ^ room
+pub number_low : (room b n : ℕ) → (room ≡ 0 → ⊥) → b < 128 → n < 128 ^ (room - 1) → b + 128 * n < 128 ^ room
 number_low room b n some byte low = omega (arith, byte, low, next_power room some)
 
-pub ruleset powers = (common_steps, byte_low, more_low, sum_low, number_low)
+pub digit_low : (room b n : ℕ) → (room ≡ 0 → ⊥) → n < 128 ^ (room - 1) → b % 128 + 128 * n < 128 ^ room
+digit_low room b n some low = let digit : b % 128 < 128 = omega arith in number_low room (b % 128) n some digit low
+
+pub ruleset powers = (common_steps, byte_low, more_low, number_low, digit_low)

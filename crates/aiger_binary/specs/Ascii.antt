@@ -10,7 +10,7 @@ use Rattle.text_core.specs.Lines.{Line, lines_of, line_bytes}
 use Rattle.text_core.specs.Words.{after}
 use Rattle.aiger_binary.specs.Options.{◌>>=◌}
 use Rattle.aiger_binary.specs.declared.header.Counts.{Counts}
-use Rattle.aiger_binary.specs.Codes.{Coded, number_between}
+use Rattle.aiger_binary.specs.Codes.{number_between}
 use Rattle.aiger_binary.specs.Cut.{Cut, cut_first}
 use Rattle.aiger_binary.specs.Header.{counts_in, is_packed}
 

@@ -1,5 +1,5 @@
 -- Numbers in the binary form of AIGER: 7 bits a byte, the least first; each byte but the last has 128 added.
-use Rattle.std.specs.Prelude.{ℕ, zero, suc, ◌+◌, ◌-◌, ◌*◌, nat_lt, nat_le, ◌&&◌, if◌then◌else◌, List, [], ◌∷◌, Option, Some, None}
+use Rattle.std.specs.Prelude.{ℕ, zero, suc, ◌+◌, ◌*◌, ◌%◌, nat_lt, nat_le, ◌&&◌, if◌then◌else◌, List, [], ◌∷◌, Option, Some, None}
 use Rattle.aiger_binary.specs.Options.{◌>>=◌}
 
 -- the most bytes of a number: 28 bits, which is more than a literal has
@@ -20,7 +20,7 @@ unfoldable pub number_in : ℕ → List ℕ → Option Coded
 number_in zero bytes = None
 number_in (suc room) [] = None
 number_in (suc room) (b ∷ bytes) = if nat_lt b 128 then Some (coded b bytes)
-    else (number_in room bytes >>= λ c. Some (coded (b - 128 + 128 * c.number) c.rest))
+    else (number_in room bytes >>= λ c. Some (coded (b % 128 + 128 * c.number) c.rest))
 
 -- the number that the bytes begin with, if it is between two bounds
 abbrev pub number_between : ℕ → ℕ → List ℕ → Option Coded

@@ -1,4 +1,3 @@
-pub use Rattle.text_core.specs.Lines
 pub mod Options
 pub mod Codes
 pub mod Cut

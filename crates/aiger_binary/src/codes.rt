@@ -34,7 +34,7 @@ fn number_in(room: u32, bytes: &[u8]) -> Option<Coded<'_>>
     }
     let more = number_in(room - 1, rest)?;
     Some(Coded {
-        number: u32::from(*byte - 128) + 128 * more.number,
+        number: u32::from(*byte % 128) + 128 * more.number,
         rest: more.rest,
     })
 }

@@ -1,6 +1,6 @@
 //! The first line of a text.
 
-ghost use Rattle.std.specs.Prelude.{◌≡◌, ◌≤◌, length};
+ghost use Rattle.std.specs.Prelude.{◌≡◌};
 ghost use Rattle.aiger_binary.specs.Cut as spec;
 
 /// A line without its LF, whether an LF ends it, and the bytes after it.

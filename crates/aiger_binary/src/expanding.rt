@@ -1,7 +1,6 @@
 //! The ASCII text of a binary one.
 
-ghost use Rattle.std.specs.Prelude.{◌≡◌, ◌+◌, ◌≤◌, ◌++◌, [], true, OnOk, IfOk, IfSome};
-ghost use Rattle.std.specs.Option.{is_some};
+ghost use Rattle.std.specs.Prelude.{◌≡◌, ◌++◌, true, OnOk, IfOk};
 ghost use Rattle.text_core.specs.Lines.{line_bytes};
 ghost use Rattle.aiger_binary.specs.Ascii as spec;
 ghost use Rattle.aiger_binary.specs.Cut.{line_of, cut_of};
@@ -52,7 +51,7 @@ fn push_sections(out: &mut Vec<u8>, counts: Counts, bytes: &[u8]) -> Result<(), 
 
 /// The header's line with its LF, by the first word of the ASCII form.
 fn header_line(alloc: Global, header: FirstLine) -> Result<Vec<u8>, AllocError>
-    ensures { IfOk result (λ t. t.items ≡ spec.renamed (line_bytes (line_of header.text.now header.ended))) }
+    ensures { IfOk result (λ t. t.items ≡ spec.renamed (line_bytes (line_of header.entry.text.now header.entry.ended))) }
 {
     let mut line = Vec::new(alloc);
     push_line(&mut line, header.text, header.ended)?;
@@ -65,7 +64,7 @@ fn header_line(alloc: Global, header: FirstLine) -> Result<Vec<u8>, AllocError>
 fn ascii_with(alloc: Global, counts: Counts, header: FirstLine) -> Result<Vec<u8>, AllocError>
     requires { AreLow counts }
     ensures { IfOk result (λ t. t.items ≡ spec.ascii_with counts
-        (cut_of header.text.now header.ended header.rest.now)) }
+        (cut_of header.entry.text.now header.entry.ended header.entry.rest.now)) }
 {
     if !is_packed(counts) {
         return Ok(Vec::new(alloc));

@@ -1,6 +1,6 @@
 //! The lines of gates.
 
-ghost use Rattle.std.specs.Prelude.{◌≡◌, ◌+◌, ◌*◌, ◌≤◌, ◌++◌, OnOk, IfOk};
+ghost use Rattle.std.specs.Prelude.{◌≡◌, ◌+◌, ◌≤◌, ◌++◌, OnOk, IfOk};
 ghost use Rattle.std.specs.Option.{option_map};
 ghost use Rattle.aiger_binary.specs.Ascii as spec;
 ghost use Rattle.aiger_binary.specs.Header.{most_count};

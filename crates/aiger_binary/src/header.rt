@@ -32,7 +32,7 @@ struct Found<'a> {
 #[tactic(auto, using(crate::proofs::Headers::headers))]
 fn first_count(items: Option<&[u8]>) -> Option<Found<'_>>
     ensures exact { option_map (λ (f : Found). spec.found f.number (items_left f.more)) result ≡
-        spec.first_count (items_left items) }
+        spec.first_count (items_left items.entry) }
     ensures low { IfSome result (λ f. f.number ≤ spec.most_count) }
 {
     let text = items?;

@@ -1,5 +1,5 @@
 -- A text and the ASCII text that it stands for.
-use Rattle.std.proofs.Common.{◌≡◌, ℕ, ◌∙◌, true, false, List, ap, sym, subst}
+use Rattle.std.proofs.Common.{◌≡◌, ℕ, ◌∙◌, true, false, List, sym, subst}
 use Rattle.std.proofs.lemmas.Bool.{cond-true}
 use Rattle.std.proofs.lemmas.Grind.{common_steps}
 use Rattle.net_theory.specs.Circuit.{Circuit}

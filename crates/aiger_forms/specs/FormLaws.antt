@@ -1,12 +1,11 @@
 -- What the ASCII form satisfies, both forms satisfy.
-use Rattle.std.proofs.Common.{◌≡◌, ℕ, ◌∙◌, false, List, refl, ap, sym, inl, inr, ⊎_elim}
-use Rattle.std.specs.Prelude.{if◌then◌else◌, Result, Ok, Err, codes}
-use Rattle.std.proofs.lemmas.Bool.{cond-true, cond-false}
+use Rattle.std.proofs.Common.{◌≡◌, ℕ, ◌∙◌, false, List, refl, ap}
+use Rattle.std.proofs.lemmas.Bool.{cond-false}
+use Rattle.std.proofs.lemmas.Grind.{common_steps}
 use Rattle.net_theory.specs.Circuit.{Circuit}
 use Rattle.net_core.specs.declared.error.NetError.{NetError}
 use Rattle.net_core.specs.declared.error.NetError.TheVariants.{Memory}
-use Rattle.net_document.specs.Listed.{Listed}
-use Rattle.net_document.specs.Format.{IsNetlist, IsCircuitOfText, IsRefusedText, IsReadBack, IsTextOf, ListsWell, IsFormat}
+use Rattle.net_document.specs.Format.{IsNetlist, IsCircuitOfText, IsRefusedText, IsTextOf, ListsWell, IsFormat}
 use Rattle.aiger_text.specs.File.{AigFile}
 use Rattle.aiger_text.specs.Spelling.{spelled}
 use Rattle.text_core.specs.Words.{after}
@@ -69,4 +68,4 @@ forms_are_format is = record {
   exchanged = is.exchanged;
 }
 
-pub ruleset formats = (forms_are_format)
+pub ruleset formats = (common_steps, forms_are_format)

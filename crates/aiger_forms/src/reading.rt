@@ -4,7 +4,7 @@ ghost use Rattle.std.specs.Prelude.{◌≡◌, ◌<◌, ◌^◌, length, IfOk, I
 ghost use Rattle.net_core.specs.declared.error.NetError.TheVariants.{Memory};
 ghost use Rattle.net_document.specs.Format.{IsNetlist, IsCircuitOfText, IsRefusedText};
 ghost use Rattle.aiger_core.specs.Aiger.{aiger_format};
-ghost use Rattle.aiger_binary.specs.Ascii.{is_binary as is_binary_of, ascii_of};
+ghost use Rattle.aiger_binary.specs.Ascii.{is_binary as is_binary_of};
 ghost use Rattle.aiger_forms.specs.Forms.{aiger_forms};
 
 use aiger_binary::{ascii_text, is_binary};
