@@ -14,7 +14,7 @@ fn fault(error: &NetError) -> (&'static str, u32) {
 }
 
 /// Whether `text` is refused with the error `word` at line `line`; 0 for no error.
-fn is_refused(alloc: Global, text: &[u8], word: &str, line: u32) -> bool {
+pub(crate) fn is_refused(alloc: Global, text: &[u8], word: &str, line: u32) -> bool {
     if text.len() > 100_000 {
         return false;
     }

@@ -1,11 +1,15 @@
 -- The result of `improve` for an AIGER text.
 use Rattle.std.specs.Prelude.{◌≡◌, ℕ, ◌≤◌, List, length, true, false, codes}
+use Rattle.std.proofs.Common.{◌∙◌, ap, sym, subst}
 use Rattle.std.proofs.lemmas.Grind.{common_steps}
 use Rattle.net_theory.specs.Limits.{most_of_netlist}
 use Rattle.net_core.specs.declared.error.NetError.{NetError}
 use Rattle.net_core.specs.declared.error.NetError.TheVariants as nets
 use Rattle.net_document.specs.Format.{IsRefusedText}
 use Rattle.aiger_core.specs.Aiger.{aiger_format}
+use Rattle.aiger_binary.specs.Ascii.{ascii_in}
+use Rattle.aiger_forms.specs.Forms.{aiger_forms}
+use Rattle.aiger_forms.specs.FormLaws.{text_plain}
 use Rattle.command_line.specs.WithinLaws.{within_members}
 use Rattle.settings.specs.declared.improve.ImproveSettings.{ImproveSettings}
 use Rattle.equiv_run.specs.Two.{is_bare}
@@ -17,17 +21,28 @@ use Rattle.cmd_improve.specs.ImproveReport.{improve_reply, improve_refusal}
 use Rattle.cmd_improve.specs.NamedReport.{Empty, Faulty, empty_refusal}
 use Rattle.cmd_formats.specs.AigerReport.{HasAndGates, aiger_task}
 
-pub reports : (settings : ImproveSettings) (bytes text report : List ℕ) (reply : Reply) → length bytes ≤ most_of_netlist →
-    is_bare bytes ≡ false → IsReported aiger_format settings bytes text report →
-    reply ≡ improve_reply (record { text = text; report = report }) → HasReply (aiger_task settings) bytes reply
-reports settings bytes text report reply within said reported is = record {
-  answer = record { text = text; report = report };
-  has = record { within = within; said = said; reported = reported };
+-- the text of an improved circuit stands for itself
+plain : (settings : ImproveSettings) (bytes text report : List ℕ) → IsReported aiger_forms settings bytes text report →
+    ascii_in text ≡ text
+plain settings bytes text report is =
+    ap ascii_in is.improved.spelled ∙ text_plain is.circuit ∙ sym is.improved.spelled
+
+pub reports : (settings : ImproveSettings) (bytes text answer report : List ℕ) (reply : Reply) → length bytes ≤ most_of_netlist →
+    is_bare bytes ≡ false → IsReported aiger_forms settings bytes text report → ascii_in answer ≡ ascii_in text →
+    reply ≡ improve_reply (record { text = answer; report = report }) → HasReply (aiger_task settings) bytes reply
+reports settings bytes text answer report reply within said reported same is = record {
+  answer = record { text = answer; report = report };
+  has = record {
+    within = within;
+    said = said;
+    reported = subst (λ (t : List ℕ). IsReported aiger_forms settings bytes t report)
+        (sym (same ∙ plain settings bytes text report reported)) reported;
+  };
   is = is;
 }
 
 pub refuses : (settings : ImproveSettings) (bytes : List ℕ) (e : NetError) (refusal : Refusal) →
-    length bytes ≤ most_of_netlist → is_bare bytes ≡ false → (e ≡ nets.Memory → ⊥) → IsRefusedText aiger_format bytes e →
+    length bytes ≤ most_of_netlist → is_bare bytes ≡ false → (e ≡ nets.Memory → ⊥) → IsRefusedText aiger_forms bytes e →
     refusal ≡ improve_refusal e → Refuses (aiger_task settings) bytes refusal
 refuses settings bytes e refusal within said other fault is = record {
   fault = Faulty e;
@@ -43,7 +58,7 @@ refuses_bare settings bytes refusal within bare is = record {
   is = is;
 }
 
-pub fits : (settings : ImproveSettings) → HasAndGates settings.basis → FitsFormat aiger_format settings
+pub fits : (settings : ImproveSettings) → HasAndGates settings.basis → FitsFormat aiger_forms settings
 fits settings has = fits_aiger settings (within_members settings.basis and_set has)
 
 pub ruleset improving = (common_steps, reports, refuses, refuses_bare, fits)

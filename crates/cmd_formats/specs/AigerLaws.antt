@@ -6,7 +6,8 @@ use Rattle.net_document.specs.Format.{IsNetlist}
 use Rattle.net_document.specs.FormatLaws.{fault_one, fault_never}
 use Rattle.format_names.specs.declared.formats.NetFormat.TheVariants.{Aiger}
 use Rattle.net_formats.specs.FormatLaws.{lists_well}
-use Rattle.aiger_core.specs.Aiger.{aiger_format}
+use Rattle.aiger_binary.specs.Ascii.{ascii_in}
+use Rattle.aiger_forms.specs.Forms.{aiger_forms}
 use Rattle.settings.specs.declared.improve.ImproveSettings.{ImproveSettings}
 use Rattle.equiv_run.specs.Two.{is_bare}
 use Rattle.improve_windows.specs.Improving.{IsReported}
@@ -28,20 +29,20 @@ both : {A : Type 0} (b : Bool) → b ≡ true → b ≡ false → A
 both b is isnt = let e : true ≡ false = sym is ∙ isnt in cc
 
 reported_netlist : (settings : ImproveSettings) (bytes text report : List ℕ) →
-    IsReported aiger_format settings bytes text report → IsNetlist aiger_format bytes
+    IsReported aiger_forms settings bytes text report → IsNetlist aiger_forms bytes
 reported_netlist settings bytes text report is = record { listed = is.improved.read; said = is.improved.said; well = is.improved.well }
 
 apart : (settings : ImproveSettings) (bytes : List ℕ) (i : Improvement) (fault : NamedFault) →
     IsAigerImprovement settings bytes i → HasAigerFault bytes fault → ⊥
 apart settings bytes i Empty is meets = both (is_bare bytes) meets.bare is.said
 apart settings bytes i (Faulty e) is meets =
-    fault_never aiger_format bytes e (lists_well Aiger) (reported_netlist settings bytes i.text i.report is.reported) meets.fault
+    fault_never aiger_forms bytes e (lists_well Aiger) (reported_netlist settings bytes (ascii_in i.text) i.report is.reported) meets.fault
 
 one : (bytes : List ℕ) (a b : NamedFault) → HasAigerFault bytes a → HasAigerFault bytes b → named_refusal a ≡ named_refusal b
 one bytes Empty Empty x y = refl
 one bytes Empty (Faulty e) x y = both (is_bare bytes) x.bare y.said
 one bytes (Faulty e) Empty x y = both (is_bare bytes) y.bare x.said
-one bytes (Faulty e) (Faulty f) x y = ap improve_refusal (fault_one aiger_format bytes e f x.fault y.fault)
+one bytes (Faulty e) (Faulty f) x y = ap improve_refusal (fault_one aiger_forms bytes e f x.fault y.fault)
 
 few : (bytes : List ℕ) (fault : NamedFault) → HasAigerFault bytes fault → length bytes ≤ most_of_netlist
 few bytes Empty meets = meets.within

@@ -1,22 +1,25 @@
-//! The command `improve` for AIGER: an equivalent file with no more gates.
-ghost use Rattle.std.specs.Prelude.{◌≡◌, ◌≤◌, length, false};
+//! The command `improve` for AIGER: an equivalent file with no more gates, in the form of the given one.
+ghost use Rattle.std.specs.Prelude.{◌≡◌, ◌≤◌, length, false, IfOk};
 ghost use Rattle.net_theory.specs.Limits.{most_of_netlist};
 ghost use Rattle.settings.specs.Improve.{IsInRange};
 ghost use Rattle.equiv_run.specs.Two.{is_bare as is_bare_of};
 ghost use Rattle.frame_core.specs.Views.{Judges};
+ghost use Rattle.aiger_binary.specs.Ascii.{ascii_in};
 ghost use Rattle.cmd_formats.specs.AigerReport.{aiger_task, has_and_gates as has_and_gates_of, HasAndGates};
 
+use aiger_binary::is_binary;
+use aiger_pack::pack;
 use cmd_improve::{empty, refusal_of, reply_of};
 use equiv_run::is_bare;
 use frame_core::{Replier, Reply, Stop};
-use improve_aiger::improve_aiger;
+use improve_aiger::{ImprovedText, improve_aiger};
 use net_core::NetError;
 use net_theory::MOST_OF_NETLIST;
 use op_basis::Basis;
 use progress::Tell;
 use sat_solve::Solver;
 use settings::ImproveSettings;
-use std::alloc::Global;
+use std::alloc::{AllocError, Global};
 use std::marker::PhantomData;
 
 /// The operators of AND gates with complements, constants, copies and complements: all but XOR and its complement.
@@ -27,6 +30,26 @@ pub fn has_and_gates(basis: Basis) -> bool
     ensures { result ≡ has_and_gates_of basis }
 {
     basis.get() & AND_SET == basis.get()
+}
+
+/// The answer in the form of the text that was read.
+fn formed(
+    alloc: Global,
+    bytes: &[u8],
+    improved: ImprovedText,
+) -> Result<ImprovedText, AllocError>
+    ensures text { IfOk result (λ i. ascii_in i.text.items ≡ ascii_in improved.text.items) }
+    ensures report { IfOk result (λ i. i.report.items ≡ improved.report.items) }
+{
+    if !is_binary(bytes) {
+        return Ok(improved);
+    }
+    let ImprovedText { text, report } = improved;
+    let packed = pack(alloc, &text)?;
+    Ok(ImprovedText {
+        text: packed,
+        report,
+    })
 }
 
 /// The reply to an AIGER text that isn't empty.
@@ -44,7 +67,10 @@ fn reply_to<S: Solver, T: Tell>(
     ensures { Judges (aiger_task settings.now) bytes.now result }
 {
     match improve_aiger::<S, T>(alloc, bytes, *settings, tell) {
-        Ok(improved) => Ok(reply_of(improved)),
+        Ok(improved) => match formed(alloc, bytes, improved) {
+            Ok(answer) => Ok(reply_of(answer)),
+            Err(AllocError) => Err(Stop::NoMemory),
+        },
         Err(NetError::Memory) => Err(Stop::NoMemory),
         Err(error) => Err(Stop::NoAnswer(refusal_of(error))),
     }

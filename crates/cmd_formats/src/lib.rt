@@ -2,7 +2,8 @@
 //!
 //! `EquivFormats` is `equiv` of a netlist with a given one, each a text of its own in a format of its own: the task of
 //! `EquivWith` of `cmd_equiv`, with formats (`specs/FormatsReport`). `ImproveAiger` is `improve` for AIGER
-//! (`specs/AigerReport`). `specs/FormatsLaws` and `specs/AigerLaws` prove that these are tasks.
+//! (`specs/AigerReport`), which writes the form that it read. `specs/FormatsLaws` and `specs/AigerLaws` prove that
+//! these are tasks.
 #![tactic(auto)]
 
 mod comparing;

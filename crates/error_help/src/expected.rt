@@ -2,7 +2,7 @@
 //! stand in `chain_faults` and `net_faults`.
 
 use crate::chain_faults::{CERTIFICATES, CHAINS, DEPTHS, PARTS, STEPS, TABLES};
-use crate::net_faults::{BENCHES, BLIFS, NETLISTS, PAIRS, WORDS};
+use crate::net_faults::{AIGERS, BENCHES, BLIFS, NETLISTS, PAIRS, WORDS};
 use help_text::Part;
 use net_theory::{MOST_OF_NETLIST, MOST_OF_TWO};
 
@@ -21,6 +21,8 @@ pub enum Subject {
     Blif,
     /// A netlist in BENCH.
     Bench,
+    /// A netlist in AIGER.
+    Aiger,
     /// Two netlists.
     Pair,
 }
@@ -104,6 +106,7 @@ pub(crate) fn entry_of(subject: Subject, name: &[u8]) -> Option<Entry> {
         Subject::Depth => among(DEPTHS, name),
         Subject::Blif => in_either(BLIFS, NETLISTS, name),
         Subject::Bench => in_either(BENCHES, NETLISTS, name),
+        Subject::Aiger => in_either(AIGERS, NETLISTS, name),
         Subject::Pair => among(PAIRS, name),
     };
     match own {
@@ -139,7 +142,7 @@ pub(crate) fn most_bytes(subject: Subject) -> usize {
     match subject {
         Subject::Tables | Subject::Question => MOST_OF_TABLES,
         Subject::Certificate | Subject::Depth => MOST_OF_CERTIFICATE,
-        Subject::Blif | Subject::Bench => MOST_OF_NETLIST,
+        Subject::Blif | Subject::Bench | Subject::Aiger => MOST_OF_NETLIST,
         Subject::Pair => MOST_OF_TWO,
     }
 }

@@ -183,13 +183,55 @@ fn push_too_long(text: &mut Vec<u8>, subject: Subject, input: Input) -> Result<(
     )
 }
 
+/// Whether an input is known to begin with a word and a digit.
+fn begins(input: Input, word: &[u8]) -> bool {
+    let Some(bytes) = input.bytes else {
+        return false;
+    };
+    let Some(rest) = after(word, bytes) else {
+        return false;
+    };
+    match rest.first() {
+        Some(byte) => byte.is_ascii_digit(),
+        None => false,
+    }
+}
+
+/// The format of a netlist that is in AIGER by its first word, and else what the command reads.
+fn subject_in(subject: Subject, input: Input) -> Subject {
+    match subject {
+        Subject::Blif | Subject::Bench => {
+            if begins(input, b"aag ") || begins(input, b"aig ") {
+                Subject::Aiger
+            } else {
+                subject
+            }
+        }
+        _ => subject,
+    }
+}
+
+/// An input whose lines can be shown: those of a binary text aren't the lines that its faults name.
+fn shown_input(input: Input) -> Input {
+    if begins(input, b"aig ") {
+        Input {
+            name: input.name,
+            bytes: None,
+        }
+    } else {
+        input
+    }
+}
+
 /// Appends what was expected, and returns whether there is anything to say.
 fn push_fault(
     text: &mut Vec<u8>,
-    subject: Subject,
-    input: Input,
+    asked: Subject,
+    given: Input,
     fault: Fault,
 ) -> Result<bool, AllocError> {
+    let subject = subject_in(asked, given);
+    let input = shown_input(given);
     if fault.name == b"TooLong".as_slice() {
         push_too_long(text, subject, input)?;
         return Ok(true);

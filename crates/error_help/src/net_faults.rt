@@ -106,6 +106,24 @@ pub(crate) const BENCHES: &[Entry] = &[
     },
 ];
 
+/// Faults of netlists in AIGER.
+pub(crate) const AIGERS: &[Entry] = &[
+    Entry {
+        name: b"Syntax",
+        place: Place::Line,
+        says: &[Part::Text(
+            b"`aag M I L O A`, then inputs, latches, outputs, gates and symbols (batsokemi help aiger)",
+        )],
+    },
+    Entry {
+        name: b"NotSupported",
+        place: Place::Line,
+        says: &[Part::Text(
+            b"counts within the limits, no properties, and no name that begins with `&`",
+        )],
+    },
+];
+
 /// Faults of two netlists.
 pub(crate) const PAIRS: &[Entry] = &[
     Entry {

@@ -5,7 +5,7 @@
 pub enum NetFormat {
     Blif,
     Bench,
-    /// AIGER in its ASCII form.
+    /// AIGER in its ASCII or its binary form, as the text says.
     Aiger,
 }
 

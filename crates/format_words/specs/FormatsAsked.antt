@@ -1,5 +1,5 @@
 -- The formats that words ask for, and the words that mean the same without them.
-use Rattle.std.specs.Prelude.{ℕ, List, [], ◌∷◌, ◌++◌, Bool, true, false, Option, Some, None, codes, if◌then◌else◌}
+use Rattle.std.specs.Prelude.{ℕ, List, [], ◌∷◌, ◌++◌, Bool, true, false, ◌||◌, Option, Some, None, codes, if◌then◌else◌}
 use Rattle.command_line.specs.Options.{is_word}
 use Rattle.command_line.specs.CommandLine.{word_after, is_named}
 use Rattle.file_words.specs.Formats.{ends_with}
@@ -11,9 +11,13 @@ use Rattle.format_words.specs.declared.asking.FormatsAsked.TheVariants.{Own, Imp
 
 -- ---- formats
 
+-- AIGER by the end of a file's name
+abbrev pub ends_as_aiger : List ℕ → Bool
+ends_as_aiger file = ends_with file (codes ".aag") || ends_with file (codes ".aig")
+
 -- the format of a file, by the end of its name
 abbrev pub format_of_file : List ℕ → NetFormat
-format_of_file file = if ends_with file (codes ".aag") then Aiger
+format_of_file file = if ends_as_aiger file then Aiger
     else (if ends_with file (codes ".bench") then Bench else Blif)
 
 -- the format that a word names
@@ -28,7 +32,7 @@ named_format options = word_after (codes "--format") options
 
 abbrev pub names_aiger : List (List ℕ) → Bool
 names_aiger [] = false
-names_aiger (file ∷ files) = ends_with file (codes ".aag")
+names_aiger (file ∷ files) = ends_as_aiger file
 
 -- ---- what is asked
 
@@ -66,8 +70,8 @@ abbrev pub asked_on : Option Line → FormatsAsked
 asked_on None = Own
 asked_on (Some line) = asked_in line.words line.operands
 
--- What words ask for. Examples: `improve a.aag` and `improve --format aiger` ask for AIGER; `equiv a.aag b.bench` asks for
--- AIGER and BENCH.
+-- What words ask for. Examples: `improve a.aag`, `improve a.aig` and `improve --format aiger` ask for AIGER;
+-- `equiv a.aag b.bench` asks for AIGER and BENCH.
 abbrev pub asked_of : List (List ℕ) → FormatsAsked
 asked_of words = asked_on (file_line words)
 

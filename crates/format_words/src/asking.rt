@@ -47,11 +47,18 @@ pub(crate) fn word_after<'a>(name: &[u8], words: &'a [String]) -> Option<&'a [u8
     None
 }
 
+/// Whether a file is in AIGER, by its name.
+fn ends_as_aiger(file: &[u8]) -> bool
+    ensures { result ≡ spec.ends_as_aiger file.now }
+{
+    ends_with(file, b".aag") || ends_with(file, b".aig")
+}
+
 /// The format of a file, by its name.
 fn format_of_file(file: &[u8]) -> NetFormat
     ensures { result ≡ spec.format_of_file file.now }
 {
-    if ends_with(file, b".aag") {
+    if ends_as_aiger(file) {
         return NetFormat::Aiger;
     }
     if ends_with(file, b".bench") {
@@ -83,7 +90,7 @@ fn names_aiger(files: &[String]) -> bool
     let Some((file, _)) = files.split_first() else {
         return false;
     };
-    ends_with(file.as_bytes(), b".aag")
+    ends_as_aiger(file.as_bytes())
 }
 
 /// Whether `improve` reads AIGER, by its options and files.

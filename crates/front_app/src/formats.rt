@@ -42,7 +42,7 @@ impl KnownFormat for InBench {
     }
 }
 
-/// AIGER in its ASCII form.
+/// AIGER in its ASCII or its binary form, as the text says.
 #[derive(Clone, Copy)]
 pub struct InAiger;
 

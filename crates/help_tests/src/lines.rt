@@ -75,6 +75,18 @@ const LINES: &[(Subject, &str, &str, &str)] = &[
         "a:4: y: a name is driven once: by an input, a table or gate, or a latch\n",
     ),
     (
+        Subject::Blif,
+        "error: Syntax 3",
+        "aag 3 2 0 1 1\n2\n3\n7\n6 4 2\n",
+        "a:3: 3: `aag M I L O A`, then inputs, latches, outputs, gates and symbols (batsokemi help aiger)\n",
+    ),
+    (
+        Subject::Blif,
+        "error: Syntax 5",
+        "aig 3 2 0 1 1\n7\n2",
+        "a:5: `aag M I L O A`, then inputs, latches, outputs, gates and symbols (batsokemi help aiger)\n",
+    ),
+    (
         Subject::Pair,
         "error: Second Undriven q",
         NETLIST,

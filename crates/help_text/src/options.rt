@@ -285,7 +285,7 @@ const IMPROVE: &[Row] = &[
         value: b"FORMAT",
         allowed: Allowed::Words(&[b"blif", b"bench", b"aiger"]),
         default: Default::Word(b"blif"),
-        says: b"of both netlists; for a file whose name ends with .bench or .aag the default is bench or aiger",
+        says: b"of both netlists; for a file whose name ends with .bench, .aag or .aig the default is bench or aiger",
     },
     OUTPUT,
 ];
@@ -317,7 +317,7 @@ const EQUIV: &[Row] = &[
         value: b"FORMAT",
         allowed: Allowed::Words(&[b"blif", b"bench", b"aiger"]),
         default: Default::Word(b"blif"),
-        says: b"of both files; without it each has that of its name's end: .bench, .aag, and else BLIF",
+        says: b"of both files; without it each has that of its name's end: .bench, .aag, .aig, and else BLIF",
     },
     OUTPUT,
     CERTIFICATE,

@@ -224,7 +224,7 @@ Example: OR is not XOR
 
 const IMPROVE: &[u8] = b"batsokemi improve [OPTION VALUE].. [NETLIST] [-o NETLIST]
 
-Reads a netlist in BLIF, BENCH or AIGER (its ASCII form) and writes an equivalent one of the same format
+Reads a netlist in BLIF, BENCH or AIGER and writes an equivalent one of the same format
 with no more gates, by exact resynthesis of windows of up to --cap gates. For AIGER the default of --basis
 is u2: AND gates with complements. Its report goes to standard error:
 

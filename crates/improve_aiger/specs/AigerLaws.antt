@@ -23,6 +23,7 @@ use Rattle.aiger_text.specs.Meaning.{document_of, listed_with, listed}
 use Rattle.aiger_text.specs.Spelling.{spelled}
 use Rattle.aiger_core.specs.Written.{is_and_word, file_of}
 use Rattle.aiger_core.specs.Aiger.{aiger_format}
+use Rattle.aiger_forms.specs.Forms.{aiger_forms}
 use Rattle.aiger_laws.specs.Writable.{CanWriteAiger}
 use Rattle.settings.specs.declared.improve.ImproveSettings.{ImproveSettings}
 use Rattle.improve_theory.specs.Undecided.{Undecided}
@@ -53,17 +54,17 @@ pub ruleset costing = (common_steps, cost_of_file, tables_are, cost_small, cheap
 -- ---- improved circuits
 
 pub aiger_can : (s : ImproveSettings) (bytes : List ℕ) (c k : Circuit) (before after : ℕ) (settled : Bool)
-    (named : List Undecided) → IsFormat aiger_format CanWriteAiger → FitsFormat aiger_format s →
-    IsCircuitOfText aiger_format bytes c → k ≡ record c { net = k.net } →
+    (named : List Undecided) → IsFormat aiger_forms CanWriteAiger → FitsFormat aiger_forms s →
+    IsCircuitOfText aiger_forms bytes c → k ≡ record c { net = k.net } →
     IsBetter blif_format s c k before after settled named → HasRoomForNames k → CanWriteAiger k
 aiger_can s bytes c k before after settled named format fits is same better room =
-    writable aiger_format CanWriteAiger s bytes c k settled named format is fits same better.left room
+    writable aiger_forms CanWriteAiger s bytes c k settled named format is fits same better.left room
 
 -- the same circuit with its cost as an AIGER text
 better_counted : (s : ImproveSettings) (c k : Circuit) (before blif_after after : ℕ) (settled : Bool)
     (named : List Undecided) → IsBetter blif_format s c k before blif_after settled named →
     after ≡ cost (document_of (file_of k)) → after ≤ length k.net.gates →
-    IsBetter aiger_format s c k before after settled named
+    IsBetter aiger_forms s c k before after settled named
 better_counted s c k before blif_after after settled named better is cheap = record {
   proper = better.proper;
   model = better.model;
@@ -75,16 +76,16 @@ better_counted s c k before blif_after after settled named better is cheap = rec
 }
 
 pub aiger_improved : (s : ImproveSettings) (bytes text report : List ℕ) (c k : Circuit) (before blif_after after : ℕ)
-    (settled : Bool) (named : List Undecided) → IsFormat aiger_format CanWriteAiger → FitsFormat aiger_format s →
-    IsCircuitOfText aiger_format bytes c → k ≡ record c { net = k.net } →
+    (settled : Bool) (named : List Undecided) → IsFormat aiger_forms CanWriteAiger → FitsFormat aiger_forms s →
+    IsCircuitOfText aiger_forms bytes c → k ≡ record c { net = k.net } →
     IsBetter blif_format s c k before blif_after settled named → HasRoomForNames k → text ≡ spelled (file_of k) →
     after ≡ cost (document_of (file_of k)) → after ≤ length k.net.gates →
     report ≡ report_text (gate_names k) k.net.sources before after settled named →
-    IsReported aiger_format s bytes text report
+    IsReported aiger_forms s bytes text report
 aiger_improved s bytes text report c k before blif_after after settled named format fits is same better room spells costs cheap all_reported =
     let can = aiger_can s bytes c k before blif_after settled named format fits is same better room in
     let counted = better_counted s c k before blif_after after settled named better costs cheap in
-    let improved = improved_is aiger_format CanWriteAiger s bytes c k before after settled named format is counted can in
+    let improved = improved_is aiger_forms CanWriteAiger s bytes c k before after settled named format is counted can in
     record {
       circuit = k;
       before = before;
@@ -125,5 +126,5 @@ ands_are op has = elim (cases_lt op 16) [
 ]
 
 -- A basis whose operators are all among these fits AIGER.
-pub fits_aiger : (s : ImproveSettings) → ((op : ℕ) → members s.basis op ≡ true → members and_set op ≡ true) → FitsFormat aiger_format s
+pub fits_aiger : (s : ImproveSettings) → ((op : ℕ) → members s.basis op ≡ true → members and_set op ≡ true) → FitsFormat aiger_forms s
 fits_aiger s within op has = ands_are op (within op has)

@@ -19,7 +19,9 @@ use Rattle.aiger_text.specs.Valid.{IsAig}
 use Rattle.aiger_text.specs.Naming.{numbered_from, is_kind, with_symbols, output_names, variable_names, name_at}
 use Rattle.aiger_text.specs.Meaning.{signals_of, latch_line, document_of, listed_with, listed}
 use Rattle.aiger_text.specs.Statements.{file_of}
-use Rattle.aiger_core.specs.Aiger.{listed_of, aiger_format}
+use Rattle.aiger_core.specs.Aiger.{listed_of}
+use Rattle.aiger_binary.specs.Ascii.{ascii_in}
+use Rattle.aiger_forms.specs.Forms.{aiger_forms}
 use Rattle.net_formats.specs.Few.{IsFew}
 
 abbrev list_in : Result AigFile NetError → Result Listed NetError
@@ -30,8 +32,9 @@ list_is : (P : Listed → Type 0) (r : Result AigFile NetError) (l : Listed) →
 list_is P (Ok f) l is e = let same : listed f ≡ l = cc in subst P same (is f refl)
 list_is P (Err x) l is e = absurd cc
 
-pub aiger_lists : ListsWell aiger_format
-aiger_lists bytes l e = list_is IsWellListed (file_of bytes) l (λ f is. listed_is f (file_is bytes f is)) e
+pub aiger_lists : ListsWell aiger_forms
+aiger_lists bytes l e =
+    list_is IsWellListed (file_of (ascii_in bytes)) l (λ f is. listed_is f (file_is (ascii_in bytes) f is)) e
 
 -- ---- outputs
 
@@ -77,5 +80,6 @@ file_few : (f : AigFile) → IsAig f → IsFew (listed f).document
 unfolding listed_with
 file_few f is = record { sources = omega (arith, sources_few f is); outputs = omega (arith, outputs_few f is) }
 
-pub aiger_few : (bytes : List ℕ) (l : Listed) → listed_of bytes ≡ Ok l → IsFew l.document
-aiger_few bytes l e = list_is (λ (x : Listed). IsFew x.document) (file_of bytes) l (λ f is. file_few f (file_is bytes f is)) e
+pub aiger_few : (bytes : List ℕ) (l : Listed) → listed_of (ascii_in bytes) ≡ Ok l → IsFew l.document
+aiger_few bytes l e =
+    list_is (λ (x : Listed). IsFew x.document) (file_of (ascii_in bytes)) l (λ f is. file_few f (file_is (ascii_in bytes) f is)) e

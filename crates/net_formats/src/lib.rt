@@ -1,4 +1,4 @@
-//! The formats of netlists as one type: `NetFormat` names BLIF, BENCH and AIGER (the ASCII form), and `read_netlist`
+//! The formats of netlists as one type: `NetFormat` names BLIF, BENCH and AIGER (in either form), and `read_netlist`
 //! reads a text of any of them. Its clauses are those of the reader of the format; `format_of` (`specs/Formats`) says
 //! which `Format` a name stands for.
 //!

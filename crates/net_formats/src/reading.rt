@@ -5,7 +5,7 @@ ghost use Rattle.net_core.specs.declared.error.NetError.TheVariants.{Memory};
 ghost use Rattle.net_document.specs.Format.{IsNetlist, IsCircuitOfText, IsRefusedText};
 ghost use Rattle.net_formats.specs.Formats.{format_of};
 
-use aiger_core::read_aiger;
+use aiger_forms::read_forms;
 use bench_core::read_bench;
 use blif_core::read_blif;
 use format_names::NetFormat;
@@ -23,6 +23,6 @@ pub fn read_netlist(alloc: Global, format: NetFormat, bytes: &[u8]) -> Result<Ci
     match format {
         NetFormat::Blif => read_blif(alloc, bytes),
         NetFormat::Bench => read_bench(alloc, bytes),
-        NetFormat::Aiger => read_aiger(alloc, bytes),
+        NetFormat::Aiger => read_forms(alloc, bytes),
     }
 }
