@@ -65,8 +65,10 @@ impl<'a> Replier for WriteValues<'a> {
             return Err(Stop::NoAnswer(empty(b"Second")));
         }
         match value_texts(alloc, self.formats, self.first, bytes, self.bits) {
-            Ok(Valued::Text(text)) => Ok(reply_of(text)),
-            Ok(Valued::Miscounted(count)) => Err(Stop::NoAnswer(miscounted(count))),
+            Ok(valued) => match valued {
+                Valued::Text(text) => Ok(reply_of(text)),
+                Valued::Miscounted(count) => Err(Stop::NoAnswer(miscounted(count))),
+            },
             Err(CompareError::Memory) => Err(Stop::NoMemory),
             Err(error) => Err(Stop::NoAnswer(refusal_of(error))),
         }

@@ -1,8 +1,8 @@
 -- What words ask for.
-use Rattle.std.specs.Prelude.{◌≡◌, ℕ, ◌==◌, List, length, map, Bool, true, false, Option, Some, None, is_some, String, Vec, Result, Ok, Err}
+use Rattle.std.specs.Prelude.{◌≡◌, ℕ, ◌==◌, List, [], ◌∷◌, length, map, Bool, true, false, Option, Some, None, is_some, String, Vec, Result, Ok, Err}
 use Rattle.std.specs.Global.{Global}
 use Rattle.std.specs.Option.{option_map}
-use Rattle.std.proofs.Common.{refl, sym, ap, ◌∙◌, subst}
+use Rattle.std.proofs.Common.{refl, sym, ap, ◌∙◌, subst, arith}
 use Rattle.std.proofs.lemmas.Grind.{common_steps}
 use Rattle.std.proofs.lemmas.List.{length-map}
 use Rattle.command_line.specs.declared.command.Command.{Command}
@@ -12,7 +12,7 @@ use Rattle.file_words.specs.declared.line.FileLine.{FileLine}
 use Rattle.file_words.specs.Sorting.{Line, file_line}
 use Rattle.file_words.specs.Lines.{line_value}
 use Rattle.front_core.specs.Asked.{IsNotPlain}
-use Rattle.front_at.specs.AtAsked.{AsksForValues, AsksForNone, at_in, fits}
+use Rattle.front_at.specs.AtAsked.{AsksForValues, AsksForNone, bits_for, at_in, fits}
 
 -- ---- words that are read as a command, or as none
 
@@ -33,6 +33,53 @@ pub no_command : (read : Result Command WordsError) (o : Option Command) (e : Wo
 no_command read o e holds is = sym (ap is_some (nothing o e (sym holds ∙ is)))
 
 pub ruleset plains = (common_steps, some_command, no_command)
+
+-- ---- the words of a line
+
+pub no_word : (f : String Global → List ℕ) (words : List (String Global)) → words ≡ [] → None ≡ at_in (map f words)
+no_word f words is = ap (λ (xs : List (String Global)). at_in (map f xs)) (sym is)
+
+pub one_word : (f : String Global → List ℕ) (words options : List (String Global)) (name : String Global) →
+    words ≡ name ∷ options → options ≡ [] → None ≡ at_in (map f words)
+one_word f words options name is none =
+    ap (λ (xs : List (String Global)). at_in (map f xs)) (sym (is ∙ ap (λ (xs : List (String Global)). name ∷ xs) none))
+
+pub two_words : (f : String Global → List ℕ) (words options values : List (String Global)) (name option : String Global) →
+    words ≡ name ∷ options → options ≡ option ∷ values → values ≡ [] → None ≡ at_in (map f words)
+two_words f words options values name option is second none =
+    ap (λ (xs : List (String Global)). at_in (map f xs)) (sym (is ∙ ap (λ (xs : List (String Global)). name ∷ xs)
+    (second ∙ ap (λ (xs : List (String Global)). option ∷ xs) none)))
+
+more_than_three : (f : String Global → List ℕ) (name option word : String Global) (rest : List (String Global)) →
+    (length rest ≡ 0 → ⊥) → None ≡ at_in (map f (name ∷ option ∷ word ∷ rest))
+more_than_three f name option word [] some = absurd (some refl)
+more_than_three f name option word (x ∷ xs) some = refl
+
+just_three : (f : String Global → List ℕ) (name option word : String Global) (rest : List (String Global)) →
+    length rest ≡ 0 → bits_for (f name) (f option) (f word) ≡ at_in (map f (name ∷ option ∷ word ∷ rest))
+just_three f name option word [] none = refl
+just_three f name option word (x ∷ xs) none = absurd (omega arith)
+
+three : (words options values rest : List (String Global)) (name option word : String Global) → words ≡ name ∷ options →
+    options ≡ option ∷ values → values ≡ word ∷ rest → words ≡ name ∷ option ∷ word ∷ rest
+three words options values rest name option word is second third =
+    is ∙ ap (λ (xs : List (String Global)). name ∷ xs) (second ∙ ap (λ (xs : List (String Global)). option ∷ xs) third)
+
+pub more_words : (f : String Global → List ℕ) (words options values rest : List (String Global)) (name option word : String Global) →
+    words ≡ name ∷ options → options ≡ option ∷ values → values ≡ word ∷ rest → (length rest ≡ 0 → ⊥) →
+    None ≡ at_in (map f words)
+more_words f words options values rest name option word is second third some =
+    more_than_three f name option word rest some
+    ∙ ap (λ (xs : List (String Global)). at_in (map f xs)) (sym (three words options values rest name option word is second third))
+
+pub three_words : (f : String Global → List ℕ) (words options values rest : List (String Global)) (name option word : String Global)
+    (found : Option (List Bool)) → words ≡ name ∷ options → options ≡ option ∷ values → values ≡ word ∷ rest →
+    length rest ≡ 0 → found ≡ bits_for (f name) (f option) (f word) → found ≡ at_in (map f words)
+three_words f words options values rest name option word found is second third none read =
+    read ∙ just_three f name option word rest none
+    ∙ ap (λ (xs : List (String Global)). at_in (map f xs)) (sym (three words options values rest name option word is second third))
+
+pub ruleset reading = (common_steps, no_word, one_word, two_words, more_words, three_words)
 
 -- ---- files
 

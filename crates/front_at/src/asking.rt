@@ -57,6 +57,7 @@ fn bits_for(
 }
 
 /// The bits that the words of a line without files ask for.
+#[tactic(auto, using(crate::proofs::Asking::reading))]
 fn bits_asked(alloc: Global, words: &[String]) -> Result<Option<Vec<bool>>, AllocError>
     ensures { IfOk result (λ found. option_map (λ (bits : Vec Bool Global). bits.items) found ≡
         spec.at_in (map string_bytes words.now)) }
@@ -70,9 +71,9 @@ fn bits_asked(alloc: Global, words: &[String]) -> Result<Option<Vec<bool>>, Allo
     let Some((word, rest)) = values.split_first() else {
         return Ok(None);
     };
-    let None = rest.split_first() else {
+    if !rest.is_empty() {
         return Ok(None);
-    };
+    }
     bits_for(alloc, name, option, word)
 }
 
