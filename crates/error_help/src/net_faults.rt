@@ -140,6 +140,13 @@ pub(crate) const PAIRS: &[Entry] = &[
             b"the same inputs, outputs and clocks in the same order, and the same latches",
         )],
     },
+    Entry {
+        name: b"SourceCount",
+        place: Place::Counted,
+        says: &[Part::Text(
+            b" inputs and latches; --at has one bit for each of them",
+        )],
+    },
 ];
 
 /// What a word of BLIF that isn't read asks for.

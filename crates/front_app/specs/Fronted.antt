@@ -2,6 +2,7 @@
 use Rattle.std.specs.Prelude.{◌⊎◌, ℕ, List, Option, Some, None}
 use Rattle.command_line.specs.declared.command.Command.{Command}
 use Rattle.command_line.specs.CommandLine.{command_of}
+use Rattle.format_names.specs.declared.formats.FormatPair.{FormatPair}
 use Rattle.format_words.specs.declared.asking.FormatsAsked.{FormatsAsked}
 use Rattle.format_words.specs.declared.asking.FormatsAsked.TheVariants.{Own, ImproveAiger, Compare}
 use Rattle.format_words.specs.FormatsAsked.{asked_of, plain_words}
@@ -20,6 +21,12 @@ promises_of Own = promised_by KeepsPromises KeepsNamed (KeepsComparison blif_pai
 promises_of ImproveAiger = promised_by KeepsAiger KeepsAiger (KeepsComparison blif_pair)
 promises_of (Compare formats) = promised_by KeepsPromises KeepsNamed (KeepsComparison formats)
 
+-- the formats of two netlists that are read
+abbrev pub formats_of : FormatsAsked → FormatPair
+formats_of Own = blif_pair
+formats_of ImproveAiger = blif_pair
+formats_of (Compare formats) = formats
+
 -- a run with other words
 abbrev pub with_words : List (List ℕ) → FrontRun → FrontRun
 with_words words r = front_run words r.files r.source r.out r.note r.status
@@ -27,11 +34,13 @@ with_words words r = front_run words r.files r.source r.out r.note r.status
 -- A run of words that may ask for formats: memory ran out before they were read; or the run is that of the words without
 -- formats, with what is promised for the formats that they ask for.
 abbrev pub IsFormatted : FrontRun → Type 0
-IsFormatted r = Reports memory Memory r ⊎ IsGuided (promises_of (asked_of r.words)) (with_words (plain_words r.words) r)
+IsFormatted r =
+    Reports memory Memory r ⊎
+    IsGuided (formats_of (asked_of r.words)) (promises_of (asked_of r.words)) (with_words (plain_words r.words) r)
 
 -- By the command that the words are to the program over streams, if they are one: such words ask for no format.
 abbrev pub IsFrontedBy : Option Command → FrontRun → Type 0
-IsFrontedBy (Some command) r = IsGuided (promises_of Own) r
+IsFrontedBy (Some command) r = IsGuided (formats_of Own) (promises_of Own) r
 IsFrontedBy None r = IsFormatted r
 
 abbrev pub IsFronted : FrontRun → Type 0

@@ -8,7 +8,7 @@ ghost use Rattle.front_core.specs.Front.{front_run, promised_by};
 ghost use Rattle.front_guide.specs.Guided.{IsGuided};
 ghost use Rattle.front_app.specs.Aiger.{KeepsAiger};
 ghost use Rattle.front_app.specs.Comparison.{pair_of, blif_pair, KeepsComparison};
-ghost use Rattle.front_app.specs.Fronted.{promises_of, IsFormatted, IsFronted};
+ghost use Rattle.front_app.specs.Fronted.{formats_of, promises_of, IsFormatted, IsFronted};
 ghost use Rattle.front_app.specs.Named.{KeepsNamed};
 
 use crate::formats::{InAiger, InBench, InBlif, KnownFormat};
@@ -26,6 +26,7 @@ use std::alloc::Global;
 use std::marker::PhantomData;
 
 /// Guides a run whose comparisons are of netlists in two formats.
+#[tactic(auto, using(crate::proofs::Fronting::pairs))]
 fn guide_pair<
     F: KnownFormat,
     G: KnownFormat,
@@ -45,7 +46,8 @@ fn guide_pair<
     reader: &R,
     tell: &T,
 ) -> Status
-    ensures { IsGuided (promised_by KeepsPromises KeepsNamed (KeepsComparison (pair_of F.named G.named)))
+    ensures { IsGuided (pair_of F.named G.named)
+        (promised_by KeepsPromises KeepsNamed (KeepsComparison (pair_of F.named G.named)))
         (front_run (spelled words.now)
         (files_before_after W.holds W.faults outside.old outside.new)
         (before_after S.left S.faults source.old source.new)
@@ -58,7 +60,13 @@ fn guide_pair<
         first: PhantomData::<F>,
         second: PhantomData::<G>,
     };
-    guide(alloc, &strict, words, outside, source, out, note, reader)
+    let formats = FormatPair {
+        first: F::format(),
+        second: G::format(),
+    };
+    guide(
+        alloc, &strict, formats, words, outside, source, out, note, reader,
+    )
 }
 
 /// The same, by the second format.
@@ -73,7 +81,8 @@ fn guide_second<F: KnownFormat, W: Outside, S: Recalls, O: Sink, N: Retells, R: 
     reader: &R,
     tell: &T,
 ) -> Status
-    ensures { IsGuided (promised_by KeepsPromises KeepsNamed (KeepsComparison (pair_of F.named second)))
+    ensures { IsGuided (pair_of F.named second)
+        (promised_by KeepsPromises KeepsNamed (KeepsComparison (pair_of F.named second)))
         (front_run (spelled words.now)
         (files_before_after W.holds W.faults outside.old outside.new)
         (before_after S.left S.faults source.old source.new)
@@ -106,7 +115,8 @@ fn guide_formats<W: Outside, S: Recalls, O: Sink, N: Retells, R: Rereads, T: Tel
     reader: &R,
     tell: &T,
 ) -> Status
-    ensures { IsGuided (promised_by KeepsPromises KeepsNamed (KeepsComparison formats)) (front_run (spelled words.now)
+    ensures { IsGuided formats (promised_by KeepsPromises KeepsNamed (KeepsComparison formats))
+        (front_run (spelled words.now)
         (files_before_after W.holds W.faults outside.old outside.new)
         (before_after S.left S.faults source.old source.new)
         (before_after O.written O.faults out.old out.new)
@@ -138,7 +148,8 @@ fn guide_aiger<W: Outside, S: Recalls, O: Sink, N: Retells, R: Rereads, T: Tell>
     reader: &R,
     tell: &T,
 ) -> Status
-    ensures { IsGuided (promised_by KeepsAiger KeepsAiger (KeepsComparison blif_pair)) (front_run (spelled words.now)
+    ensures { IsGuided blif_pair (promised_by KeepsAiger KeepsAiger (KeepsComparison blif_pair))
+        (front_run (spelled words.now)
         (files_before_after W.holds W.faults outside.old outside.new)
         (before_after S.left S.faults source.old source.new)
         (before_after O.written O.faults out.old out.new)
@@ -146,7 +157,13 @@ fn guide_aiger<W: Outside, S: Recalls, O: Sink, N: Retells, R: Rereads, T: Tell>
         result) }
 {
     let program = OverAiger { tell };
-    guide(alloc, &program, words, outside, source, out, note, reader)
+    let formats = FormatPair {
+        first: NetFormat::Blif,
+        second: NetFormat::Blif,
+    };
+    guide(
+        alloc, &program, formats, words, outside, source, out, note, reader,
+    )
 }
 
 /// Guides a run over the formats that are asked for.
@@ -161,7 +178,7 @@ fn guide_asked<W: Outside, S: Recalls, O: Sink, N: Retells, R: Rereads, T: Tell>
     reader: &R,
     tell: &T,
 ) -> Status
-    ensures { IsGuided (promises_of asked) (front_run (spelled words.now)
+    ensures { IsGuided (formats_of asked) (promises_of asked) (front_run (spelled words.now)
         (files_before_after W.holds W.faults outside.old outside.new)
         (before_after S.left S.faults source.old source.new)
         (before_after O.written O.faults out.old out.new)

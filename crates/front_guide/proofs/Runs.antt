@@ -2,22 +2,23 @@
 use Rattle.std.specs.Prelude.{◌≡◌, ◌≤◌, ℕ, List, true, false, refl}
 use Rattle.std.proofs.Common.{inl, inr}
 use Rattle.std.proofs.lemmas.Grind.{common_steps}
+use Rattle.format_names.specs.declared.formats.FormatPair.{FormatPair}
 use Rattle.frame_core.specs.declared.status.Status.{Status}
 use Rattle.frame_core.specs.Outside.{PortState, Writes}
 use Rattle.file_io.specs.Files.{Files}
 use Rattle.file_io.specs.Served.{Pass}
 use Rattle.front_core.specs.Asked.{IsNotPlain}
 use Rattle.front_core.specs.Front.{Promises, front_run}
-use Rattle.front_large.specs.LargeRuns.{IsServed}
+use Rattle.front_at.specs.AtRuns.{IsServed}
 use Rattle.front_guide.specs.Words.{has_help_word}
 use Rattle.front_guide.specs.Guided.{IsPageStatus, IsGuided, is_found}
 
 -- a page was written
-pub paged : (promises : Promises) (words : List (List ℕ)) (files : Files) (source out out' note : PortState)
+pub paged : (formats : FormatPair) (promises : Promises) (words : List (List ℕ)) (files : Files) (source out out' note : PortState)
     (page : List ℕ) (status : Status) → files.1 ≡ files.0 → IsNotPlain words → has_help_word words ≡ true →
     Writes out out' page → IsPageStatus (out, out') status →
-    IsGuided promises (front_run words files (source, source) (out, out') (note, note) status)
-paged promises words files source out out' note page status same other asks writes is = inl (record {
+    IsGuided formats promises (front_run words files (source, source) (out, out') (note, note) status)
+paged formats promises words files source out out' note page status same other asks writes is = inl (record {
   other = other;
   asks = asks;
   page = page;
@@ -29,22 +30,22 @@ paged promises words files source out out' note page status same other asks writ
 })
 
 -- the command had an answer, and nothing came after it
-pub answered : (promises : Promises) (words : List (List ℕ)) (files : Files) (source out : Pass) (note note' : PortState)
-    (status : Status) → IsServed promises (front_run words files source out (note, note') status) →
-    IsGuided promises (front_run words files source out (note, note') status)
-answered promises words files source out note note' status served = inr (record {
+pub answered : (formats : FormatPair) (promises : Promises) (words : List (List ℕ)) (files : Files) (source out : Pass) (note note' : PortState)
+    (status : Status) → IsServed formats promises (front_run words files source out (note, note') status) →
+    IsGuided formats promises (front_run words files source out (note, note') status)
+answered formats promises words files source out note note' status served = inr (record {
   between = note';
   served = served;
   hinted = inl refl;
 })
 
 -- a text for people came after it
-pub hinted : (promises : Promises) (words : List (List ℕ)) (files : Files) (source out : Pass)
+pub hinted : (formats : FormatPair) (promises : Promises) (words : List (List ℕ)) (files : Files) (source out : Pass)
     (note between note' : PortState) (hint : List ℕ) (status : Status) →
-    IsServed promises (front_run words files source out (note, between) status) →
+    IsServed formats promises (front_run words files source out (note, between) status) →
     is_found status ≡ false → Writes between note' hint → between.faults ≤ note'.faults →
-    IsGuided promises (front_run words files source out (note, note') status)
-hinted promises words files source out note between note' hint status served unanswered writes rises = inr (record {
+    IsGuided formats promises (front_run words files source out (note, note') status)
+hinted formats promises words files source out note between note' hint status served unanswered writes rises = inr (record {
   between = between;
   served = served;
   hinted = inr (record { hint = hint; on_note = writes; rises = rises; unanswered = unanswered });

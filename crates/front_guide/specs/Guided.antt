@@ -1,13 +1,14 @@
 -- How a run ends that helps people.
 use Rattle.std.specs.Prelude.{◌≡◌, ◌≤◌, ◌⊎◌, List, ℕ, Bool, true, false}
 use Rattle.port_io.specs.Faults.{Rose}
+use Rattle.format_names.specs.declared.formats.FormatPair.{FormatPair}
 use Rattle.frame_core.specs.declared.status.Status.{Status}
 use Rattle.frame_core.specs.declared.status.Status.TheVariants.{Done, Undecided, WriteFault}
 use Rattle.frame_core.specs.Outside.{PortState, Writes}
 use Rattle.file_io.specs.Served.{Pass}
 use Rattle.front_core.specs.Asked.{IsNotPlain}
 use Rattle.front_core.specs.Front.{Promises, FrontRun, front_run}
-use Rattle.front_large.specs.LargeRuns.{IsServed}
+use Rattle.front_at.specs.AtRuns.{IsServed}
 use Rattle.front_guide.specs.Words.{has_help_word}
 
 -- A page was written to the output: all of it, or a call failed.
@@ -42,11 +43,12 @@ pub record IsHinted (between after : PortState) (status : Status) : Type 0 where
   pub rises : between.faults ≤ after.faults
   pub unanswered : is_found status ≡ false
 
--- The run ended, up to a state of its notes; after it came nothing, or a text for people.
-pub record IsHelped (promises : Promises) (r : FrontRun) : Type 0 where
+-- The run ended, up to a state of its notes; after it came nothing, or a text for people. The formats are those of
+-- netlists whose values the words may ask for.
+pub record IsHelped (formats : FormatPair) (promises : Promises) (r : FrontRun) : Type 0 where
   pub between : PortState
-  pub served : IsServed promises (up_to between r)
+  pub served : IsServed formats promises (up_to between r)
   pub hinted : (r.note.1 ≡ between) ⊎ IsHinted between r.note.1 r.status
 
-abbrev pub IsGuided : Promises → FrontRun → Type 0
-IsGuided promises r = IsPaged r ⊎ IsHelped promises r
+abbrev pub IsGuided : FormatPair → Promises → FrontRun → Type 0
+IsGuided formats promises r = IsPaged r ⊎ IsHelped formats promises r

@@ -15,9 +15,10 @@ use crate::explaining::{Rereads, people_line};
 use crate::remembering::{Recalls, Retells};
 use command_line::read_words;
 use file_io::Outside;
+use format_names::FormatPair;
 use frame_core::Status;
+use front_at::serve;
 use front_core::Program;
-use front_large::serve;
 use help_text::asked_page;
 use port_io::{Sink, WriteFault, write_all};
 use std::alloc::Global;
@@ -105,11 +106,12 @@ fn is_found(status: Status) -> bool
 }
 
 /// Writes the page that words ask for; or runs the command that they ask for, and where it has no answer, writes a line
-/// for people after the error line.
+/// for people after the error line. Netlists whose values are asked for are in these formats.
 #[tactic(auto, using(crate::proofs::Runs::guided))]
 pub fn guide<P: Program, W: Outside, S: Recalls, O: Sink, N: Retells, R: Rereads>(
     alloc: Global,
     program: &P,
+    formats: FormatPair,
     words: &Vec<String>,
     outside: &mut W,
     source: &mut S,
@@ -117,7 +119,7 @@ pub fn guide<P: Program, W: Outside, S: Recalls, O: Sink, N: Retells, R: Rereads
     note: &mut N,
     reader: &R,
 ) -> Status
-    ensures { IsGuided (promised_by P.keeps P.keeps_named P.compares) (front_run (spelled words.now)
+    ensures { IsGuided formats (promised_by P.keeps P.keeps_named P.compares) (front_run (spelled words.now)
         (files_before_after W.holds W.faults outside.old outside.new)
         (before_after S.left S.faults source.old source.new)
         (before_after O.written O.faults out.old out.new)
@@ -127,7 +129,7 @@ pub fn guide<P: Program, W: Outside, S: Recalls, O: Sink, N: Retells, R: Rereads
     if let Some(page) = page_for(alloc, words) {
         return write_page(out, &page);
     }
-    let status = serve::<P, W, S, O, N>(alloc, program, words, outside, source, out, note);
+    let status = serve::<P, W, S, O, N>(alloc, program, formats, words, outside, source, out, note);
     if is_found(status) {
         return status;
     }

@@ -1,7 +1,7 @@
 //! The front with help for people: pages for those who ask, and a line after each error line.
 //!
 //! `guide` prints a page where words ask for one that are no command line. All other words it hands to `serve` of
-//! `front_large`, and where that ends without an answer, one more line goes to the notes: what is wrong with the
+//! `front_at`, and where that ends without an answer, one more line goes to the notes: what is wrong with the
 //! words, or where the fault is in the input, what stands there and what was expected (`help_text`, `error_help`). For
 //! this line the source and the notes remember what went through them, and a file that was named is read again.
 //!
@@ -10,7 +10,7 @@
 //! proved.
 //!
 //! ```text
-//! let status = guide::<Strict, ..>(alloc, &words, &mut outside, &mut source, &mut out, &mut note, &reader);
+//! let status = guide(alloc, &program, formats, &words, &mut outside, &mut source, &mut out, &mut note, &reader);
 //! ```
 #![tactic(auto)]
 

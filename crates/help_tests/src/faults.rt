@@ -221,5 +221,6 @@ fn each_fault_of_pairs_has_an_entry(rt: HostRuntime) {
         has_entry(Subject::Pair, b"NoSecond") && has_entry(Subject::Pair, b"DifferentInterface")
     );
     assert!(rt; has_entry(Subject::Pair, b"Memory") && has_entry(Subject::Pair, b"TooLong"));
+    assert!(rt; has_entry(Subject::Pair, b"SourceCount"));
     assert!(rt; has_entry(Subject::Blif, b"Empty"));
 }

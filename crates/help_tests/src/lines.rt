@@ -93,6 +93,12 @@ const LINES: &[(Subject, &str, &str, &str)] = &[
         "b:7: q: an input, a table or gate, or a latch drives each name that is read\n",
     ),
     (
+        Subject::Pair,
+        "error: SourceCount 3",
+        NETLIST,
+        "a: 3 inputs and latches; --at has one bit for each of them\n",
+    ),
+    (
         Subject::Tables,
         "error: TooManyInputs",
         "inputs 7\n",

@@ -80,6 +80,18 @@ const WRONG: &[(&str, &str)] = &[
         "batsokemi: equiv needs --formula with a value: the name of a file (batsokemi help equiv)\n",
     ),
     (
+        "equiv --at 01x a b",
+        "batsokemi: --at takes characters 0 and 1, or - for none, and not '01x' (batsokemi help equiv)\n",
+    ),
+    (
+        "equiv --at 01 --conflicts 9 a b",
+        "batsokemi: --at asks for values alone, without --conflicts (batsokemi help equiv)\n",
+    ),
+    (
+        "equiv --at 01 a",
+        "batsokemi: with --at equiv reads two files (batsokemi help equiv)\n",
+    ),
+    (
         "gen x",
         "batsokemi: gen reads no file, and 'x' is one more (batsokemi help gen)\n",
     ),

@@ -22,7 +22,7 @@ fn values_of(row: &Row) -> &'static [&'static [u8]] {
     match row.allowed {
         Allowed::Words(words) => words,
         Allowed::Basis => BASES,
-        Allowed::Number(_, _) | Allowed::File => &[],
+        Allowed::Number(_, _) | Allowed::File | Allowed::Bits => &[],
     }
 }
 

@@ -12,6 +12,7 @@
 #![tactic(auto)]
 
 mod asking;
+mod clashes;
 mod commands;
 mod completing;
 mod listing;
@@ -19,6 +20,7 @@ mod manual;
 mod options;
 mod pages;
 mod pen;
+mod phrases;
 mod topics;
 mod values;
 mod wrong;

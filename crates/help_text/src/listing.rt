@@ -26,6 +26,7 @@ fn push_kind(table: &mut Vec<u8>, allowed: Allowed) -> Result<(), AllocError> {
         }
         Allowed::Basis => table.extend_from_slice(b"basis"),
         Allowed::File => table.extend_from_slice(b"file"),
+        Allowed::Bits => table.extend_from_slice(b"bits"),
     }
 }
 

@@ -19,6 +19,8 @@ pub(crate) enum Allowed {
     Basis,
     /// The name of a file.
     File,
+    /// Zeros and ones, or `-` for none.
+    Bits,
 }
 
 /// The value of an option that isn't named.
@@ -313,6 +315,13 @@ const EQUIV: &[Row] = &[
         says: b"with --formula: where the netlists are equal, the log goes to FILE as plain LRAT",
     },
     Row {
+        name: b"--at",
+        value: b"BITS",
+        allowed: Allowed::Bits,
+        default: Default::Nothing,
+        says: b"no comparison: the values in both netlists where the inputs and then the latches have these bits",
+    },
+    Row {
         name: b"--format",
         value: b"FORMAT",
         allowed: Allowed::Words(&[b"blif", b"bench", b"aiger"]),
@@ -352,6 +361,16 @@ pub(crate) fn options_of(command: CommandName) -> &'static [Row] {
         CommandName::Equiv => EQUIV,
         CommandName::Gen => GEN,
     }
+}
+
+/// The option with a name.
+pub(crate) fn row_named(command: CommandName, name: &[u8]) -> Option<Row> {
+    for row in options_of(command) {
+        if row.name == name {
+            return Some(*row);
+        }
+    }
+    None
 }
 
 /// The default of an option, as text; None if there is none.

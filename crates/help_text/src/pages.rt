@@ -103,6 +103,7 @@ pub(crate) fn push_allowed(text: &mut Vec<u8>, allowed: Allowed) -> Result<(), A
             b"all, u2, bench, nand, or operators as 0001,0110, each once",
         ),
         Allowed::File => text.extend_from_slice(b"the name of a file"),
+        Allowed::Bits => text.extend_from_slice(b"characters 0 and 1, or - for none"),
     }
 }
 
@@ -262,12 +263,17 @@ initial value must be the same.
 With --formula the miter of two files is written besides, for other programs, and with --log the log of
 `equal`; the ids of its hints are the numbers of the clauses. The netlists are then compared once more.
 
+With --at nothing is compared: two files are simulated where the inputs and latches have the bits of BITS,
+as of the line `at BITS`. The first line says whether they are `equal` or `differ` there; then come lines
+`A=1` for each input and latch, and `output Y: 0 and 1` (or `latch Q: 0 and 1`) with the values in both.
+
 ";
 
 const EQUIV_EXAMPLE: &[u8] = b"
 Examples:
   batsokemi equiv in.blif out.blif
   batsokemi equiv --formula two.cnf --log two.lrat in.blif out.blif
+  batsokemi equiv --at 0110 in.blif out.blif
 ";
 
 const GEN: &[u8] = b"batsokemi gen --blocks N [--run improve]

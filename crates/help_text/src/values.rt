@@ -56,6 +56,39 @@ pub(crate) fn first_file(words: &[String]) -> Option<&[u8]> {
     None
 }
 
+/// How many files there are among words.
+pub(crate) fn count_files(words: &[String]) -> usize {
+    let mut files: usize = 0;
+    let mut are_files = false;
+    let mut is_value = false;
+    for word in words {
+        let bytes = word.as_bytes();
+        if is_value {
+            is_value = false;
+        } else if !are_files && bytes == b"--".as_slice() {
+            are_files = true;
+        } else if !are_files && is_option(bytes) {
+            is_value = true;
+        } else {
+            files = files.saturating_add(1);
+        }
+    }
+    files
+}
+
+/// Whether a word spells bits: by `0` and `1`, or none by `-`.
+pub(crate) fn is_bits(word: &[u8]) -> bool {
+    if word == b"-".as_slice() {
+        return true;
+    }
+    for byte in word {
+        if *byte != b'0' && *byte != b'1' {
+            return false;
+        }
+    }
+    !word.is_empty()
+}
+
 /// Whether a word ends with a text.
 pub(crate) fn ends_with(word: &[u8], end: &[u8]) -> bool {
     let mut left = word;

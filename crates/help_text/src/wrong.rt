@@ -1,12 +1,13 @@
 //! What is wrong with words that are no command line: the first wrong word, and what is allowed in its place.
 
+use crate::clashes::{first_clash, push_clash};
 use crate::commands::{COMMANDS, CommandName, command_named, most_files, name_of};
-use crate::options::{Allowed, Row, options_of};
-use crate::pages::push_allowed;
-use crate::pen::{Part, push_parts, push_quoted};
+use crate::options::{Allowed, Row, options_of, row_named};
+use crate::pen::{Part, push_parts};
+use crate::phrases::{push_takes, push_word};
 use crate::topics::push_topic_names;
-use crate::values::{ends_with, first_file, has_value, is_option, value_of};
-use op_basis::{BENCH, read_basis};
+use crate::values::{is_bits, is_option, value_of};
+use op_basis::read_basis;
 use std::alloc::AllocError;
 use text_core::number_up_to;
 
@@ -25,33 +26,6 @@ enum Fault<'a> {
     BadValue(Row, &'a [u8]),
     /// This file is one too many.
     TooMany(&'a [u8]),
-}
-
-/// The first fault of options taken together.
-#[derive(Clone, Copy)]
-enum Clash<'a> {
-    /// This option is needed.
-    Needed(Row),
-    /// `--least-depth yes` without `--method fence`.
-    NotByFence,
-    /// `--format bench` with an operator that BENCH doesn't have.
-    NotOfBench(&'a [u8]),
-    /// `-o` and this option name one file.
-    OneFile(&'static [u8]),
-    /// This option names standard output.
-    ToOutput(&'static [u8]),
-    /// `--log` without a certificate that is a file.
-    LogOfInput,
-}
-
-/// The option with a name.
-fn row_named(command: CommandName, name: &[u8]) -> Option<Row> {
-    for row in options_of(command) {
-        if row.name == name {
-            return Some(*row);
-        }
-    }
-    None
 }
 
 /// Whether a word is one of some words.
@@ -74,6 +48,7 @@ fn takes(row: &Row, word: &[u8]) -> bool {
         Allowed::Words(words) => is_among(word, words),
         Allowed::Basis => read_basis(word).is_ok(),
         Allowed::File => true,
+        Allowed::Bits => is_bits(word),
     }
 }
 
@@ -138,148 +113,12 @@ fn word_fault(command: CommandName, words: &[String]) -> Option<Fault<'_>> {
     None
 }
 
-/// Whether a basis has an operator that BENCH doesn't have.
-fn is_beyond_bench(word: &[u8]) -> bool {
-    match read_basis(word) {
-        Ok(basis) => basis.get() & BENCH != basis.get(),
-        Err(_) => false,
-    }
-}
-
-/// Whether the netlist is in BENCH: by `--format`, or else by the end of the file's name.
-fn is_bench(words: &[String]) -> bool {
-    match value_of(b"--format", words) {
-        Some(format) => format == b"bench".as_slice(),
-        None => match first_file(words) {
-            Some(file) => ends_with(file, b".bench"),
-            None => false,
-        },
-    }
-}
-
-/// What options of `improve` ask of each other.
-fn improve_clash(words: &[String]) -> Option<Clash<'_>> {
-    match value_of(b"--basis", words) {
-        Some(basis) if is_bench(words) && is_beyond_bench(basis) => Some(Clash::NotOfBench(basis)),
-        _ => None,
-    }
-}
-
-/// Whether `-o` and another option name one file.
-fn is_one_file(name: &[u8], words: &[String]) -> bool {
-    match (value_of(b"-o", words), value_of(name, words)) {
-        (Some(output), Some(file)) => output == file,
-        _ => false,
-    }
-}
-
-/// What the file of a log needs.
-fn formula_clash(words: &[String]) -> Option<Clash<'_>> {
-    let Some(log) = value_of(b"--log", words) else {
-        return None;
-    };
-    if log == b"-".as_slice() {
-        return Some(Clash::ToOutput(b"--log"));
-    }
-    if is_one_file(b"--log", words) {
-        return Some(Clash::OneFile(b"--log"));
-    }
-    match first_file(words) {
-        Some(file) if file != b"-".as_slice() => None,
-        _ => Some(Clash::LogOfInput),
-    }
-}
-
-/// What the files of a miter need.
-fn equiv_clash(words: &[String]) -> Option<Clash<'_>> {
-    let Some(row) = row_named(CommandName::Equiv, b"--formula") else {
-        return None;
-    };
-    let Some(formula) = value_of(b"--formula", words) else {
-        return match value_of(b"--log", words) {
-            Some(_) => Some(Clash::Needed(row)),
-            None => None,
-        };
-    };
-    if formula == b"-".as_slice() {
-        return Some(Clash::ToOutput(b"--formula"));
-    }
-    if is_one_file(b"--formula", words) {
-        return Some(Clash::OneFile(b"--formula"));
-    }
-    if has_value(b"--log", b"-", words) {
-        return Some(Clash::ToOutput(b"--log"));
-    }
-    if is_one_file(b"--log", words) {
-        return Some(Clash::OneFile(b"--log"));
-    }
-    None
-}
-
-/// What options of `synth` ask of each other.
-fn synth_clash(words: &[String]) -> Option<Clash<'_>> {
-    if has_value(b"--least-depth", b"yes", words) && !has_value(b"--method", b"fence", words) {
-        return Some(Clash::NotByFence);
-    }
-    if value_of(b"--part", words).is_none() || value_of(b"--size", words).is_some() {
-        return None;
-    }
-    match row_named(CommandName::Synth, b"--size") {
-        Some(row) => Some(Clash::Needed(row)),
-        None => None,
-    }
-}
-
-/// What `gen` needs.
-fn gen_clash(words: &[String]) -> Option<Clash<'_>> {
-    if value_of(b"--blocks", words).is_some() {
-        return None;
-    }
-    match row_named(CommandName::Gen, b"--blocks") {
-        Some(row) => Some(Clash::Needed(row)),
-        None => None,
-    }
-}
-
-/// What options ask of each other.
-fn first_clash(command: CommandName, words: &[String]) -> Option<Clash<'_>> {
-    if is_one_file(b"--certificate", words) {
-        return Some(Clash::OneFile(b"--certificate"));
-    }
-    match command {
-        CommandName::Synth => synth_clash(words),
-        CommandName::Improve => improve_clash(words),
-        CommandName::Gen => gen_clash(words),
-        CommandName::Formula => formula_clash(words),
-        CommandName::Equiv => equiv_clash(words),
-        CommandName::Recheck | CommandName::Agree => None,
-    }
-}
-
 /// Appends the names of a command's options.
 fn push_names(text: &mut Vec<u8>, command: CommandName) -> Result<(), AllocError> {
     for row in options_of(command) {
         push_parts(text, &[Part::Text(b" "), Part::Text(row.name)])?;
     }
     Ok(())
-}
-
-/// Appends the values that an option takes, after the word that leads to them.
-fn push_takes(text: &mut Vec<u8>, row: &Row, lead: &'static [u8]) -> Result<(), AllocError> {
-    push_parts(text, &[Part::Text(row.name), Part::Text(lead)])?;
-    push_allowed(text, row.allowed)
-}
-
-/// Appends a word in quotes.
-fn push_word(
-    text: &mut Vec<u8>,
-    before: &'static [u8],
-    word: &[u8],
-    after: &'static [u8],
-) -> Result<(), AllocError> {
-    push_parts(text, &[Part::Text(before), Part::Text(b"'")])?;
-    push_quoted(text, word)?;
-    push_parts(text, &[Part::Text(b"'"), Part::Text(after)])
 }
 
 /// Appends what is wrong with a word.
@@ -313,46 +152,6 @@ fn push_fault(text: &mut Vec<u8>, command: CommandName, fault: Fault) -> Result<
             push_word(text, b", and not ", word, b"")
         }
         Fault::TooMany(word) => push_too_many(text, command, word),
-    }
-}
-
-/// Appends what options don't allow together.
-fn push_clash(text: &mut Vec<u8>, command: CommandName, clash: Clash) -> Result<(), AllocError> {
-    match clash {
-        Clash::Needed(row) => {
-            push_parts(
-                text,
-                &[Part::Text(name_of(command)), Part::Text(b" needs ")],
-            )?;
-            push_takes(text, &row, b" with a value: ")
-        }
-        Clash::NotByFence => text.extend_from_slice(
-            b"--least-depth yes goes with --method fence alone",
-        ),
-        Clash::NotOfBench(word) => push_word(
-            text,
-            b"with --format bench the basis has operators of bench alone, and not ",
-            word,
-            b"",
-        ),
-        Clash::OneFile(name) => push_parts(
-            text,
-            &[
-                Part::Text(b"-o and "),
-                Part::Text(name),
-                Part::Text(b" name one file"),
-            ],
-        ),
-        Clash::ToOutput(name) => push_parts(
-            text,
-            &[
-                Part::Text(name),
-                Part::Text(b" names a file, and not standard output"),
-            ],
-        ),
-        Clash::LogOfInput => text.extend_from_slice(
-            b"with --log the certificate is read twice: it has to be a file",
-        ),
     }
 }
 

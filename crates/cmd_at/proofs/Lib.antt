@@ -1,0 +1,4 @@
+pub mod Circuits
+pub mod Finding
+pub mod Lines
+pub mod Replying

@@ -1,0 +1,4 @@
+pub mod AtBits
+pub mod AtLaws
+pub mod AtReport
+pub mod AtText

@@ -1,0 +1,20 @@
+use Rattle.std.proofs.Common.{ℕ, ◌≤◌, subst}
+use Rattle.net_theory.specs.Limits.{most_of_netlist}
+use Rattle.frame_core.specs.Outside.{port_state}
+use Rattle.frame_core.specs.Run.{before_after}
+use Rattle.file_io.specs.Files.{files_before_after}
+use Rattle.file_io.specs.Texts.{text_in}
+use Rattle.front_at.proofs.Pairs.{input_compared}
+use Rattle.front_at.proofs.pairing.pair_input.Goals as goal
+
+pub returns : goal.returns
+returns g c =
+    input_compared (text_in c.args.second) (g.K.OverText.does c.args.work.now)
+    (files_before_after g.W.Outside.holds g.W.Outside.faults c.args.outside.now c.read_input.new.outside)
+    (port_state g.I.Source.left g.I.Source.faults c.args.input.now)
+    (port_state g.I.Source.left g.I.Source.faults c.read_all.new.source)
+    (before_after g.S.Source.left g.S.Source.faults c.args.source.now c.read_input.new.source)
+    (before_after g.O.Sink.written g.O.Sink.faults c.args.out.now c.read_input.new.out)
+    (before_after g.N.Sink.written g.N.Sink.faults c.args.note.now c.read_input.new.note)
+    c.read_input.result c.in-Ok.text.items c.in-Ok.ensures.all
+    (subst (λ (n : ℕ). n ≤ most_of_netlist) c.in-Ok.text.ok.0 c.in-Ok.ensures.within) c.read_input.ensures

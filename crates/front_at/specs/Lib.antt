@@ -1,0 +1,2 @@
+pub mod AtAsked
+pub mod AtRuns
