@@ -33,11 +33,7 @@ pub fn has_and_gates(basis: Basis) -> bool
 }
 
 /// The answer in the form of the text that was read.
-fn formed(
-    alloc: Global,
-    bytes: &[u8],
-    improved: ImprovedText,
-) -> Result<ImprovedText, AllocError>
+fn formed(alloc: Global, bytes: &[u8], improved: ImprovedText) -> Result<ImprovedText, AllocError>
     ensures text { IfOk result (λ i. ascii_in i.text.items ≡ ascii_in improved.text.items) }
     ensures report { IfOk result (λ i. i.report.items ≡ improved.report.items) }
 {
