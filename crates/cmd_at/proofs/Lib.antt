@@ -1,4 +1,4 @@
-pub mod Circuits
+pub mod Counting
 pub mod Finding
 pub mod Lines
 pub mod Replying

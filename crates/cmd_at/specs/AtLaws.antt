@@ -1,5 +1,5 @@
 -- The task of the values is well formed; the bits of a counterexample are read back.
-use Rattle.std.specs.Prelude.{◌≡◌, ◌≢◌, ℕ, ◌≤◌, List, [], ◌∷◌, Bool, true, false, length, map, Option, Some, Result, Ok}
+use Rattle.std.specs.Prelude.{◌≡◌, ◌≢◌, ℕ, ◌≤◌, List, [], ◌∷◌, Bool, true, false, length, map, if◌then◌else◌, Option, Some, None, Result, Ok}
 use Rattle.std.proofs.Common.{sym, ◌∙◌, ap, subst, refl, inl, inr}
 use Rattle.std.proofs.lemmas.List.{length-map}
 use Rattle.net_theory.specs.Limits.{most_of_netlist}
@@ -127,9 +127,18 @@ spelled_ones [] = refl
 spelled_ones (true ∷ bs) = ap (λ (xs : List Bool). true ∷ xs) (spelled_ones bs)
 spelled_ones (false ∷ bs) = ap (λ (xs : List Bool). false ∷ xs) (spelled_ones bs)
 
+picked : (dash empty good : Bool) (xs ys : List Bool) → dash ≡ false → empty ≡ false → good ≡ true → xs ≡ ys →
+    (if dash then Some [] else (if empty then None else (if good then Some xs else None))) ≡ Some ys
+picked false false true xs ys a b c e = ap (λ (zs : List Bool). Some zs) e
+picked false false false xs ys a b c e = absurd cc
+picked false true good xs ys a b c e = absurd cc
+picked true empty good xs ys a b c e = absurd cc
+
 -- the word of these bits is read as them
 pub read_back : (bits : List Bool) → bits_in (bits_text bits) ≡ Some bits
 unfolding bits_text are_bits characters
 read_back [] = refl
-read_back (true ∷ bs) = rw (spelled_bits bs, spelled_ones bs) refl
-read_back (false ∷ bs) = rw (spelled_bits bs, spelled_ones bs) refl
+read_back (true ∷ bs) = picked false false (are_bits (characters (true ∷ bs))) (map is_one (characters (true ∷ bs)))
+    (true ∷ bs) refl refl (spelled_bits (true ∷ bs)) (spelled_ones (true ∷ bs))
+read_back (false ∷ bs) = picked false false (are_bits (characters (false ∷ bs))) (map is_one (characters (false ∷ bs)))
+    (false ∷ bs) refl refl (spelled_bits (false ∷ bs)) (spelled_ones (false ∷ bs))

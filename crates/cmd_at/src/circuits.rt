@@ -22,7 +22,7 @@ pub enum Valued {
 }
 
 /// The text of the values of two circuits of one interface.
-#[tactic(auto, using(crate::proofs::Circuits::counting))]
+#[tactic(auto, using(crate::proofs::Counting::counting))]
 fn circuits_text(
     alloc: Global,
     first: &Circuit,
@@ -43,6 +43,7 @@ fn circuits_text(
 }
 
 /// The values of two circuits under `bits`, one for each source.
+#[tactic(auto, using(crate::proofs::Counting::counting))]
 pub(crate) fn value_circuits(
     alloc: Global,
     first: &Circuit,

@@ -1,3 +1,3 @@
-pub mod Asking
 pub mod Pairs
+pub mod Questions
 pub mod Runs

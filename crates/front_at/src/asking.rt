@@ -57,7 +57,7 @@ fn bits_for(
 }
 
 /// The bits that the words of a line without files ask for.
-#[tactic(auto, using(crate::proofs::Asking::reading))]
+#[tactic(auto, using(crate::proofs::Questions::reading))]
 fn bits_asked(alloc: Global, words: &[String]) -> Result<Option<Vec<bool>>, AllocError>
     ensures { IfOk result (λ found. option_map (λ (bits : Vec Bool Global). bits.items) found ≡
         spec.at_in (map string_bytes words.now)) }
@@ -78,7 +78,7 @@ fn bits_asked(alloc: Global, words: &[String]) -> Result<Option<Vec<bool>>, Allo
 }
 
 /// Whether words are a command line as they are.
-#[tactic(auto, using(crate::proofs::Asking::plains))]
+#[tactic(auto, using(crate::proofs::Questions::plains))]
 fn is_plain(words: &Vec<String>) -> bool
     ensures { result ≡ is_some (command_of (spelled words.now)) }
 {
@@ -89,7 +89,7 @@ fn is_plain(words: &Vec<String>) -> bool
 }
 
 /// Whether a line names two files to read.
-#[tactic(auto, using(crate::proofs::Asking::counting))]
+#[tactic(auto, using(crate::proofs::Questions::counting))]
 fn are_two(line: &FileLine) -> bool
     ensures { result ≡ (length (line_value line.now).operands == 2) }
 {
@@ -107,7 +107,7 @@ fn fits(line: &FileLine) -> bool
 }
 
 /// What words ask for that are no command line as they are; None if they ask for no values.
-#[tactic(auto, using(crate::proofs::Asking::asking))]
+#[tactic(auto, using(crate::proofs::Questions::asking))]
 fn at_of_line(alloc: Global, words: &Vec<String>) -> Result<Option<AtLine>, AllocError>
     requires { IsNotPlain (spelled words.now) }
     ensures { IfOk result (λ found. spec.IsAtOf (spelled words.now) found) }
@@ -125,7 +125,7 @@ fn at_of_line(alloc: Global, words: &Vec<String>) -> Result<Option<AtLine>, Allo
 }
 
 /// What words ask for; None if they ask for no values. Words that are a command line as they are ask for none.
-#[tactic(auto, using(crate::proofs::Asking::plainness))]
+#[tactic(auto, using(crate::proofs::Questions::plainness))]
 pub(crate) fn at_line(alloc: Global, words: &Vec<String>) -> Result<Option<AtLine>, AllocError>
     ensures found { IfOk result (λ found. spec.IsAtOf (spelled words.now) found) }
     ensures other { IfErr result (λ _. IsNotPlain (spelled words.now)) }

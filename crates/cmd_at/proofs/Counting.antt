@@ -9,7 +9,8 @@ use Rattle.net_theory.specs.Circuit.{Circuit, IsProper, sources_of}
 use Rattle.equiv_theory.specs.Counterexample.{HaveSameInterface}
 use Rattle.equiv_theory.specs.CircuitLaws.{comparable}
 use Rattle.cmd_at.specs.AtText.{values_text}
-use Rattle.cmd_at.specs.AtReport.{IsCircuitText}
+use Rattle.cmd_at.specs.declared.circuits.Valued.TheVariants.{Miscounted}
+use Rattle.cmd_at.specs.AtReport.{IsCircuitText, IsCircuitValued}
 
 -- the bits of the second circuit's sources are as many
 pub second_long : (c k : Circuit) (bits : List Bool) → IsProper c → IsProper k → HaveSameInterface c k →
@@ -44,4 +45,9 @@ circuit_text c k bits ones others same text interface long first second same_is 
       ∙ ap (λ (ys : List Bool). values_text (sources_of c) c.outputs c.latches same bits (sink_values c.net (bit_of bits)) ys) second;
 }
 
-pub ruleset counting = (common_steps, second_long, inputs_within, sinks_within, circuit_text)
+pub few_or_many : (c k : Circuit) (bits : List Bool) (count : ℕ) → HaveSameInterface c k → count ≡ c.net.sources →
+    (length bits ≡ count → ⊥) → IsCircuitValued c k bits (Miscounted count)
+few_or_many c k bits count interface counted other =
+    record { interface = interface; counted = sym counted; other = λ same. other same }
+
+pub ruleset counting = (common_steps, second_long, inputs_within, sinks_within, circuit_text, few_or_many)
