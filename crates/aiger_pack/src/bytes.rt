@@ -13,7 +13,8 @@ fn push_code(out: &mut Vec<u8>, number: u32) -> Result<(), AllocError> {
     let mut left = number;
     for _ in 0..4 {
         if left < 128 {
-            return out.push(left as u8);
+            out.push(left as u8)?;
+            return Ok(());
         }
         out.push((left % 128) as u8 + 128)?;
         left /= 128;
@@ -35,7 +36,8 @@ fn push_header(out: &mut Vec<u8>, file: &AigFile) -> Result<(), AllocError> {
     push_count(out, file.latches.len())?;
     push_count(out, file.outputs.len())?;
     push_count(out, file.gates.len())?;
-    out.push(b'\n')
+    out.push(b'\n')?;
+    Ok(())
 }
 
 /// Adds a latch: its next state, and its initial value if it isn't 0.
@@ -49,7 +51,8 @@ fn push_latch(out: &mut Vec<u8>, latch: AigLatch) -> Result<(), AllocError> {
             push_number(out, latch.literal)?;
         }
     }
-    out.push(b'\n')
+    out.push(b'\n')?;
+    Ok(())
 }
 
 /// Adds latches.
