@@ -20,6 +20,6 @@ names_help false (word ∷ words) =
     else (if is_help_option word then true else names_help (is_word word (codes "-o")) words)
 
 -- The first word asks for help, or after a command's name an option does.
-abbrev pub asks_for_page : List (List ℕ) → Bool
+unfoldable pub asks_for_page : List (List ℕ) → Bool
 asks_for_page [] = false
 asks_for_page (word ∷ words) = if is_help_word word then true else names_help false words

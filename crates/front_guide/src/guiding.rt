@@ -68,6 +68,7 @@ fn names_help(words: &[String]) -> bool
 }
 
 /// Whether words ask for a page.
+#[tactic(auto, unfolding(crate::specs::Words::asks_for_page))]
 fn asks_for_page(words: &[String]) -> bool
     ensures { result ≡ spec.asks_for_page (map string_bytes words.now) }
 {
