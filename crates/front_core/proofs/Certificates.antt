@@ -7,7 +7,7 @@ use Rattle.frame_core.specs.Outside.{PortState, Writes}
 use Rattle.frame_core.specs.Performed.{IsPerformed}
 use Rattle.file_io.specs.declared.calls.Call.TheVariants.{Open, Create}
 use Rattle.file_io.specs.FaultLine.{fault_line, fault_status}
-use Rattle.file_io.specs.Names.{Shows, file_of, IsEmpty, Begun, Begins, is_some_text}
+use Rattle.file_io.specs.Names.{Shows, file_of, Begun, Begins, is_some_text}
 use Rattle.file_io.specs.Files.{FilesState, IsUnchanged, Fails}
 use Rattle.file_io.specs.Settling.{is_answer_status, Settles}
 use Rattle.file_io.specs.Served.{Pass, Does}
