@@ -55,7 +55,7 @@ const WRONG: &[(&str, &str)] = &[
     ),
     (
         "recheck --conflicts 3",
-        "batsokemi: recheck has no option '--conflicts'; it has --depth -o (batsokemi help recheck)\n",
+        "batsokemi: recheck has no option '--conflicts'; it has --depth --most-bytes -o (batsokemi help recheck)\n",
     ),
     (
         "improve --format bench --basis all",
