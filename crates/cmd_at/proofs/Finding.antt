@@ -3,7 +3,7 @@ use Rattle.std.specs.Prelude.{◌≡◌, ℕ, Bool, List, ◌++◌, length, map,
 use Rattle.std.proofs.Common.{sym, ap, subst, ◌∙◌, refl}
 use Rattle.net_theory.specs.Document.{Name, Latch, Document, latches_of, latch_output, source_names}
 use Rattle.net_theory.specs.Net.{bit_of, sink_values}
-use Rattle.net_theory.specs.Circuit.{Circuit, IsProper, Describes, IsCircuitOf, sources_of}
+use Rattle.net_theory.specs.Circuit.{Circuit, IsProper, Describes, sources_of}
 use Rattle.net_document.specs.Format.{Format, IsNetlist, IsCircuitOfText}
 use Rattle.format_names.specs.declared.formats.FormatPair.{FormatPair}
 use Rattle.equiv_theory.specs.Counterexample.{HaveSameInterface}
@@ -12,7 +12,7 @@ use Rattle.equiv_run.specs.declared.answer.CompareError.TheVariants.{NoSecond, F
 use Rattle.equiv_run.specs.CircuitAnswers.{IsOther}
 use Rattle.equiv_run.specs.PairLaws.{shared, have_same}
 use Rattle.equiv_run.specs.NameBits.{has_assignment, values_are}
-use Rattle.equiv_formats.specs.Comparison.{Lists, first_format, second_format, AreNetlists, IsFormatsRefused, IsFirstRefused, IsSecondRefused}
+use Rattle.equiv_formats.specs.Comparison.{first_format, second_format, AreNetlists, IsFormatsRefused, IsFirstRefused, IsSecondRefused}
 use Rattle.cmd_at.specs.declared.circuits.Valued.{Valued}
 use Rattle.cmd_at.specs.declared.circuits.Valued.TheVariants.{Text, Miscounted}
 use Rattle.cmd_at.specs.AtText.{values_text}

@@ -1,9 +1,9 @@
 -- The task of the values is well formed; the bits of a counterexample are read back.
-use Rattle.std.specs.Prelude.{◌≡◌, ◌≢◌, ℕ, ◌≤◌, List, [], ◌∷◌, Bool, true, false, length, map, if◌then◌else◌, Option, Some, None, Result, Ok}
-use Rattle.std.proofs.Common.{sym, ◌∙◌, ap, subst, refl, inl, inr}
+use Rattle.std.specs.Prelude.{◌≡◌, ℕ, List, [], ◌∷◌, Bool, true, false, length, map, if◌then◌else◌, Some, None, Result, Ok}
+use Rattle.std.proofs.Common.{sym, ◌∙◌, ap, refl, inl, inr}
 use Rattle.std.proofs.lemmas.List.{length-map}
 use Rattle.net_theory.specs.Limits.{most_of_netlist}
-use Rattle.net_theory.specs.Document.{Name, Document, source_names}
+use Rattle.net_theory.specs.Document.{Document, source_names}
 use Rattle.net_core.specs.declared.error.NetError.{NetError}
 use Rattle.net_document.specs.Listed.{Listed}
 use Rattle.net_document.specs.Format.{Format}

@@ -6,7 +6,6 @@ use Rattle.net_theory.specs.Limits.{most_of_netlist}
 use Rattle.net_core.specs.declared.error.NetError.{NetError}
 use Rattle.net_core.specs.declared.error.NetError.TheVariants as nets
 use Rattle.net_document.specs.Format.{IsRefusedText}
-use Rattle.aiger_core.specs.Aiger.{aiger_format}
 use Rattle.aiger_binary.specs.Ascii.{ascii_in}
 use Rattle.aiger_forms.specs.Forms.{aiger_forms}
 use Rattle.aiger_forms.specs.FormLaws.{text_plain}

@@ -25,6 +25,10 @@ pub struct Inputs<'a> {
     pub first: Input<'a>,
     /// The second.
     pub second: Input<'a>,
+    /// The format of the first of two netlists.
+    pub first_format: Subject,
+    /// That of the second.
+    pub second_format: Subject,
 }
 
 /// A fault as an error line names it: its name and what comes after that.
@@ -226,11 +230,10 @@ fn shown_input(input: Input) -> Input {
 /// Appends what was expected, and returns whether there is anything to say.
 fn push_fault(
     text: &mut Vec<u8>,
-    asked: Subject,
+    subject: Subject,
     given: Input,
     fault: Fault,
 ) -> Result<bool, AllocError> {
-    let subject = subject_in(asked, given);
     let input = shown_input(given);
     if fault.name == b"TooLong".as_slice() {
         push_too_long(text, subject, input)?;
@@ -249,6 +252,19 @@ fn push_fault(
     }
 }
 
+/// Whether both netlists are in BLIF.
+fn are_blif(inputs: &Inputs) -> bool {
+    matches!(inputs.first_format, Subject::Blif) && matches!(inputs.second_format, Subject::Blif)
+}
+
+/// Appends the first difference of two interfaces in BLIF, and returns whether there is one to show.
+fn push_interfaces(text: &mut Vec<u8>, inputs: &Inputs) -> Result<bool, AllocError> {
+    if !are_blif(inputs) {
+        return Ok(false);
+    }
+    push_difference(text, inputs)
+}
+
 /// Appends what was expected of an input of two, or of the certificate within another, or of the only one.
 fn push_led(
     text: &mut Vec<u8>,
@@ -258,10 +274,20 @@ fn push_led(
 ) -> Result<bool, AllocError> {
     let fault = fault_of(line);
     if fault.name == b"First".as_slice() {
-        return push_fault(text, Subject::Blif, inputs.first, fault_of(fault.fields));
+        return push_fault(
+            text,
+            inputs.first_format,
+            inputs.first,
+            fault_of(fault.fields),
+        );
     }
     if fault.name == b"Second".as_slice() {
-        return push_fault(text, Subject::Blif, inputs.second, fault_of(fault.fields));
+        return push_fault(
+            text,
+            inputs.second_format,
+            inputs.second,
+            fault_of(fault.fields),
+        );
     }
     if fault.name == b"Certificate".as_slice() || fault.name == b"Bundle".as_slice() {
         return push_fault(
@@ -271,10 +297,10 @@ fn push_led(
             fault_of(fault.fields),
         );
     }
-    if fault.name == b"DifferentInterface".as_slice() && push_difference(text, inputs)? {
+    if fault.name == b"DifferentInterface".as_slice() && push_interfaces(text, inputs)? {
         return Ok(true);
     }
-    push_fault(text, subject, inputs.first, fault)
+    push_fault(text, subject_in(subject, inputs.first), inputs.first, fault)
 }
 
 /// Appends the line for people to an error line: the file, the line, what stands there, and what was expected.

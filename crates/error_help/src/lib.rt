@@ -6,7 +6,8 @@
 //! it changes nothing, and ends.
 //!
 //! ```text
-//! let inputs = Inputs { first: Input { name: b"adder.blif", bytes: Some(&text) }, second: .. };
+//! let first = Input { name: b"adder.blif", bytes: Some(&text) };
+//! let inputs = Inputs { first, second: first, first_format: Subject::Blif, second_format: Subject::Blif };
 //! push_explained(&mut line, Subject::Blif, b"error: NotSupported 10 .subckt\n", &inputs)?;
 //! // adder.blif:10: .subckt: a netlist of one model without hierarchy is read; yosys: flatten; techmap
 //! ```

@@ -143,9 +143,7 @@ pub(crate) const PAIRS: &[Entry] = &[
     Entry {
         name: b"SourceCount",
         place: Place::Counted,
-        says: &[Part::Text(
-            b" inputs and latches; --at has one bit for each of them",
-        )],
+        says: &[Part::Text(b" inputs and latches; --at has one bit for each of them")],
     },
 ];
 

@@ -6,7 +6,7 @@ use Rattle.frame_core.specs.declared.status.Status.{Status}
 use Rattle.frame_core.specs.Outside.{PortState, Writes}
 use Rattle.file_io.specs.declared.calls.Call.TheVariants.{Open, Create}
 use Rattle.file_io.specs.FaultLine.{fault_line, fault_status}
-use Rattle.file_io.specs.Names.{Shows, IsEmpty}
+use Rattle.file_io.specs.Names.{Shows, Begun}
 use Rattle.file_io.specs.Files.{FilesState, IsUnchanged, Fails}
 use Rattle.file_io.specs.Settling.{Settles}
 use Rattle.file_io.specs.Served.{Pass, Does, IsWritten, IsOpened, IsUnread}
@@ -23,7 +23,7 @@ not_created name reason does old new source note note' status fails writes is = 
 
 pub drafted : (name : List ℕ) (does : Does) (old created worked new : FilesState) (source : Pass)
     (draft draft' note between note' : PortState) (ended status : Status) →
-    IsUnchanged old created → IsEmpty draft.bytes → does (created, worked) source (draft, draft') (note, between) ended →
+    IsUnchanged old created → Begun (old.holds name) draft.bytes → does (created, worked) source (draft, draft') (note, between) ended →
     Settles name ended draft'.bytes (worked, new) (between, note') status →
     IsWritten name does (old, new) source (note, note') status
 drafted name does old created worked new source draft draft' note between note' ended status unchanged empty work settles =

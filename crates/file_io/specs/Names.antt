@@ -30,6 +30,12 @@ SameNames old new = (name : List ℕ) → new name ≡ old name
 abbrev pub IsEmpty : Option (List ℕ) → Type 0
 IsEmpty written = (bytes : List ℕ) → written ≡ Some bytes → bytes ≡ []
 
+-- What was written to a new draft beside a name: nothing, known exactly where it is known what the name holds.
+abbrev pub Begun : Holding → Option (List ℕ) → Type 0
+Begun Unknown written = written ≡ None
+Begun Absent written = written ≡ Some []
+Begun (File bytes) written = written ≡ Some []
+
 abbrev pub is_some_text : List ℕ → Bool
 is_some_text [] = false
 is_some_text text = true

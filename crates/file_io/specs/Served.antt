@@ -3,7 +3,7 @@ use Rattle.std.specs.Prelude.{◌≡◌, ◌⊎◌, ℕ, List, Option, None, Som
 use Rattle.frame_core.specs.declared.status.Status.{Status}
 use Rattle.frame_core.specs.Outside.{PortState}
 use Rattle.file_io.specs.declared.calls.Call.TheVariants.{Open, Create}
-use Rattle.file_io.specs.Names.{Shows, IsEmpty}
+use Rattle.file_io.specs.Names.{Shows, Begun}
 use Rattle.file_io.specs.Files.{FilesState, Files, IsUnchanged}
 use Rattle.file_io.specs.Failing.{IsFailed}
 use Rattle.file_io.specs.Settling.{Settles}
@@ -38,7 +38,7 @@ pub record IsDrafted (name : List ℕ) (does : Does) (files : Files) (source not
   pub between : PortState
   pub ended : Status
   pub unchanged : IsUnchanged files.0 created
-  pub empty : IsEmpty draft.0.bytes
+  pub empty : Begun (files.0.holds name) draft.0.bytes
   pub work : does (created, worked) source draft (note.0, between) ended
   pub settles : Settles name ended draft.1.bytes (worked, files.1) (between, note.1) status
 

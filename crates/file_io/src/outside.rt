@@ -1,6 +1,6 @@
 //! The files that a program can name.
 ghost use Rattle.std.specs.Prelude.{ℕ, List, IfOk, OnOk, OnErr};
-ghost use Rattle.file_io.specs.Names.{Holding, Shows, file_of, IsEmpty, Begins};
+ghost use Rattle.file_io.specs.Names.{Holding, Shows, file_of, Begun, Begins};
 ghost use Rattle.file_io.specs.Files.{Faults, files_state, IsUnchanged, Fails, IsReplaced};
 
 use crate::calls::Call;
@@ -37,9 +37,10 @@ pub trait Outside {
         ensures fails { OnErr result
             (Fails Call.Open (files_state holds faults self.old) (files_state holds faults self.new)) };
 
-    /// Creates a draft beside a name: nothing is written to it.
+    /// Creates a draft beside a name: nothing is written to it. What is written to it is known where it
+    /// is known what the name holds.
     fn create(&mut self, alloc: Global, name: &str) -> Result<Self::Draft, Reason>
-        ensures empty { IfOk result (λ draft. IsEmpty (Self.Draft.written draft)) }
+        ensures empty { IfOk result (λ draft. Begun (holds self.old name.now) (Self.Draft.written draft)) }
         ensures unchanged { OnOk result
             (IsUnchanged (files_state holds faults self.old) (files_state holds faults self.new)) }
         ensures fails { OnErr result

@@ -1,2 +1,2 @@
-pub mod Refusing
+pub mod Holding
 pub mod Smalls

@@ -1,11 +1,11 @@
-//! Files in memory, for tests of what names them, and a small program over them. Contracts don't know what the files
-//! hold; the counts of failed calls are at their end from the beginning.
-ghost use Rattle.std.specs.Prelude.{None};
-ghost use Rattle.port_io.specs.Faults.{last_count};
-ghost use Rattle.file_io.specs.Names.{Unknown};
+//! Files in memory, for tests of what names them: contracts know what the files hold.
+ghost use Rattle.std.specs.Prelude.{◌≡◌, true, false};
+ghost use Rattle.std.specs.Option.{option_copied};
+ghost use Rattle.std.specs.Prelude.{bytes_eq};
+ghost use Rattle.frame_tests.specs.Held.{found as found_in, IsGiven};
 
 use file_io::{Call, Outside, Reason};
-use port_io::{Failed, Sink, Source, SteadySource};
+use port_io::{Failed, Sink, SteadySource};
 use std::alloc::Global;
 
 /// A file.
@@ -20,29 +20,13 @@ pub struct MemoryFile {
 /// Files in memory, of which the calls of one kind may fail.
 #[derive(Drop)]
 pub struct MemoryFiles {
-    /// The files.
+    /// The files. A name leads to the first that has it.
     pub files: Vec<MemoryFile>,
-    /// The calls that fail.
-    pub failing: Option<Call>,
-    /// How many bytes can be written to a draft.
-    pub room: usize,
-}
-
-/// An open file.
-#[derive(Drop)]
-pub struct MemoryInput {
-    source: SteadySource,
-}
-
-impl Source for MemoryInput {
-    ghost left = { λ _. None };
-
-    ghost faults = { λ _. last_count };
-
-    #[tactic(auto, unfolding(port_io::specs::Bytes::prepended))]
-    fn read(&mut self, buf: &mut [u8]) -> Result<usize, Failed> {
-        self.source.read(buf)
-    }
+    failing: Option<Call>,
+    room: usize,
+    unopened: u64,
+    uncreated: u64,
+    unkept: u64,
 }
 
 /// A draft with a bounded room.
@@ -50,19 +34,24 @@ impl Source for MemoryInput {
 pub struct MemoryDraft {
     bytes: Vec<u8>,
     room: usize,
+    faults: u64,
 }
 
 impl Sink for MemoryDraft {
-    ghost written = { λ _. None };
+    ghost use Rattle.std.specs.Prelude.{Some};
 
-    ghost faults = { λ _. last_count };
+    ghost written = { λ d. Some d.bytes.items };
+
+    ghost faults = { λ d. d.faults };
 
     #[tactic(auto, unfolding(port_io::specs::Bytes::appended))]
     fn write(&mut self, piece: &[u8]) -> Result<usize, Failed> {
         if piece.len() > self.room {
+            self.faults = self.faults.saturating_add(1);
             return Err(Failed);
         }
         if self.bytes.extend_from_slice(piece).is_err() {
+            self.faults = self.faults.saturating_add(1);
             return Err(Failed);
         }
         self.room -= piece.len();
@@ -88,7 +77,51 @@ fn number_of(call: Call) -> u8 {
     }
 }
 
+/// Whether two names are the same.
+fn is_same(name: &[u8], other: &[u8]) -> bool
+    ensures { result ≡ bytes_eq name.now other.now }
+{
+    name == other
+}
+
+/// The bytes of the first file with a name.
+fn found<'a>(files: &'a [MemoryFile], name: &[u8]) -> Option<&'a [u8]>
+    ensures { option_copied result ≡ found_in files.now name.now }
+{
+    let mut left = files;
+    while let Some((file, rest)) = left.split_first() {
+        if is_same(&file.name, name) {
+            return Some(&file.bytes);
+        }
+        left = rest;
+    }
+    None
+}
+
+/// Gives a name to bytes, and tells whether that succeeded.
+fn give(alloc: Global, files: &mut Vec<MemoryFile>, name: &[u8], bytes: Vec<u8>) -> bool
+    ensures given { result ≡ true → IsGiven name.now bytes.items files.old.items files.new.items }
+    ensures same { result ≡ false → files.new.items ≡ files.old.items }
+{
+    match Vec::from_slice(alloc, name) {
+        Ok(name) => files.insert(0, MemoryFile { name, bytes }).is_ok(),
+        Err(_) => false,
+    }
+}
+
 impl MemoryFiles {
+    /// No files. The calls of a kind may fail, and there is so much room in each draft.
+    pub fn new(alloc: Global, failing: Option<Call>, room: usize) -> Self {
+        MemoryFiles {
+            files: Vec::new(alloc),
+            failing,
+            room,
+            unopened: 0,
+            uncreated: 0,
+            unkept: 0,
+        }
+    }
+
     /// Whether the calls of a kind fail.
     fn is_failing(&self, call: Call) -> bool {
         match self.failing {
@@ -99,62 +132,50 @@ impl MemoryFiles {
 
     /// What a name holds.
     pub fn held(&self, name: &[u8]) -> Option<&[u8]> {
-        for i in 0..self.files.len() {
-            if self.files[i].name.as_slice() == name {
-                return Some(&self.files[i].bytes);
-            }
-        }
-        None
-    }
-
-    /// Gives a name to bytes, and tells whether that succeeded.
-    fn give(&mut self, alloc: Global, name: &[u8], bytes: Vec<u8>) -> bool {
-        for i in 0..self.files.len() {
-            if self.files[i].name.as_slice() == name {
-                self.files[i].bytes = bytes;
-                return true;
-            }
-        }
-        match Vec::from_slice(alloc, name) {
-            Ok(name) => self.files.push(MemoryFile { name, bytes }).is_ok(),
-            Err(_) => false,
-        }
+        found(&self.files, name)
     }
 }
 
 impl Outside for MemoryFiles {
-    ghost holds = { λ _ _. Unknown };
+    ghost use Rattle.frame_tests.specs.Held.{names_of, files_faults};
 
-    ghost faults = { λ _ _. last_count };
+    ghost holds = { λ files. names_of files.files.items };
 
-    type Input = MemoryInput;
+    ghost faults = { λ files. files_faults files };
+
+    type Input = SteadySource;
 
     type Draft = MemoryDraft;
 
-    #[tactic(auto, using(crate::proofs::Refusing::refusing))]
-    fn open(&mut self, alloc: Global, name: &str) -> Result<MemoryInput, Reason> {
+    #[tactic(auto, using(crate::proofs::Holding::holding_rules))]
+    fn open(&mut self, alloc: Global, name: &str) -> Result<SteadySource, Reason> {
         if self.is_failing(Call::Open) {
+            self.unopened = self.unopened.saturating_add(1);
             return Err(refused(alloc));
         }
-        let Some(held) = self.held(name.as_bytes()) else {
+        let Some(held) = found(&self.files, name.as_bytes()) else {
+            self.unopened = self.unopened.saturating_add(1);
             return Err(refused(alloc));
         };
         match Vec::from_slice(alloc, held) {
-            Ok(bytes) => Ok(MemoryInput {
-                source: SteadySource::new(bytes),
-            }),
-            Err(_) => Err(refused(alloc)),
+            Ok(bytes) => Ok(SteadySource::new(bytes)),
+            Err(_) => {
+                self.unopened = self.unopened.saturating_add(1);
+                Err(refused(alloc))
+            }
         }
     }
 
-    #[tactic(auto, using(crate::proofs::Refusing::refusing))]
+    #[tactic(auto, using(crate::proofs::Holding::holding_rules))]
     fn create(&mut self, alloc: Global, _name: &str) -> Result<MemoryDraft, Reason> {
         if self.is_failing(Call::Create) {
+            self.uncreated = self.uncreated.saturating_add(1);
             return Err(refused(alloc));
         }
         Ok(MemoryDraft {
             bytes: Vec::new(alloc),
             room: self.room,
+            faults: 0,
         })
     }
 
@@ -162,31 +183,34 @@ impl Outside for MemoryFiles {
         !draft.bytes.is_empty()
     }
 
-    #[tactic(auto, using(crate::proofs::Refusing::refusing))]
-    fn reopen(&mut self, alloc: Global, draft: &MemoryDraft) -> Result<MemoryInput, Reason> {
+    #[tactic(auto, using(crate::proofs::Holding::holding_rules))]
+    fn reopen(&mut self, alloc: Global, draft: &MemoryDraft) -> Result<SteadySource, Reason> {
         if self.is_failing(Call::Open) {
+            self.unopened = self.unopened.saturating_add(1);
             return Err(refused(alloc));
         }
         match Vec::from_slice(alloc, &draft.bytes) {
-            Ok(bytes) => Ok(MemoryInput {
-                source: SteadySource::new(bytes),
-            }),
-            Err(_) => Err(refused(alloc)),
+            Ok(bytes) => Ok(SteadySource::new(bytes)),
+            Err(_) => {
+                self.unopened = self.unopened.saturating_add(1);
+                Err(refused(alloc))
+            }
         }
     }
 
-    #[tactic(auto, using(crate::proofs::Refusing::refusing))]
+    #[tactic(auto, using(crate::proofs::Holding::holding_rules))]
     fn keep(&mut self, alloc: Global, name: &str, draft: MemoryDraft) -> Result<(), Reason> {
         if self.is_failing(Call::Keep) {
+            self.unkept = self.unkept.saturating_add(1);
             return Err(refused(alloc));
         }
-        if self.give(alloc, name.as_bytes(), draft.bytes) {
-            Ok(())
-        } else {
-            Err(refused(alloc))
+        if give(alloc, &mut self.files, name.as_bytes(), draft.bytes) {
+            return Ok(());
         }
+        self.unkept = self.unkept.saturating_add(1);
+        Err(refused(alloc))
     }
 
-    #[tactic(auto, using(crate::proofs::Refusing::refusing))]
+    #[tactic(auto, using(crate::proofs::Holding::holding_rules))]
     fn discard(&mut self, _draft: MemoryDraft) {}
 }

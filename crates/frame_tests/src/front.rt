@@ -37,11 +37,7 @@ fn add(alloc: Global, files: &mut MemoryFiles, name: &[u8], text: &[u8]) -> Resu
 
 /// The files before a run.
 fn files_of(alloc: Global, failing: Option<Call>, room: usize) -> Result<MemoryFiles, AllocError> {
-    let mut files = MemoryFiles {
-        files: Vec::new(alloc),
-        failing,
-        room,
-    };
+    let mut files = MemoryFiles::new(alloc, failing, room);
     add(alloc, &mut files, b"in", b"text")?;
     add(alloc, &mut files, b"out", b"old")?;
     add(alloc, &mut files, b"no", b"no")?;

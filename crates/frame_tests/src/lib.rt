@@ -11,7 +11,7 @@ mod laws;
 mod lines;
 
 pub use echo::Echo;
-pub use files::{MemoryDraft, MemoryFile, MemoryFiles, MemoryInput};
+pub use files::{MemoryDraft, MemoryFile, MemoryFiles};
 pub use greeting::Greeting;
 pub use laws::{small_tasks_are_well_formed, truncated_lines_are_prefixes};
 pub use lines::Lines;

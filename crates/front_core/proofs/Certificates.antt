@@ -7,7 +7,7 @@ use Rattle.frame_core.specs.Outside.{PortState, Writes}
 use Rattle.frame_core.specs.Performed.{IsPerformed}
 use Rattle.file_io.specs.declared.calls.Call.TheVariants.{Open, Create}
 use Rattle.file_io.specs.FaultLine.{fault_line, fault_status}
-use Rattle.file_io.specs.Names.{Shows, file_of, IsEmpty, Begins, is_some_text}
+use Rattle.file_io.specs.Names.{Shows, file_of, Begun, Begins, is_some_text}
 use Rattle.file_io.specs.Files.{FilesState, IsUnchanged, Fails}
 use Rattle.file_io.specs.Settling.{is_answer_status, Settles}
 use Rattle.file_io.specs.Served.{Pass, Does}
@@ -83,7 +83,7 @@ no_certificate name reason does old new source out note note' status fails write
 
 pub parted : (name : List ℕ) (does : Does) (old created worked shown new : FilesState) (source out : Pass)
     (draft draft' note between later note' : PortState) (ended after status : Status) →
-    IsUnchanged old created → IsEmpty draft.bytes → does (created, worked) source (draft, draft') (note, between) ended →
+    IsUnchanged old created → Begun (old.holds name) draft.bytes → does (created, worked) source (draft, draft') (note, between) ended →
     IsShown name ended draft'.bytes (worked, shown) out (between, later) after →
     Settles name after draft'.bytes (shown, new) (later, note') status →
     IsCertifiedBy name does (old, new) source out (note, note') status

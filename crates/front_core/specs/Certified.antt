@@ -5,7 +5,7 @@ use Rattle.frame_core.specs.declared.status.Status.TheVariants as statuses
 use Rattle.frame_core.specs.Outside.{PortState}
 use Rattle.frame_core.specs.Run.{run_of}
 use Rattle.frame_core.specs.Promise.{CommandPromise}
-use Rattle.file_io.specs.Names.{Shows, IsEmpty, file_of}
+use Rattle.file_io.specs.Names.{Shows, IsEmpty, Begun, file_of}
 use Rattle.file_io.specs.Files.{FilesState, Files, IsUnchanged}
 use Rattle.file_io.specs.Settling.{is_answer_status, Settles}
 use Rattle.file_io.specs.Served.{Pass, Does, IsUncreated, IsUnread}
@@ -59,7 +59,7 @@ pub record IsParted (name : List ℕ) (does : Does) (files : Files) (source out 
   pub ended : Status
   pub after : Status
   pub unchanged : IsUnchanged files.0 created
-  pub empty : IsEmpty draft.0.bytes
+  pub empty : Begun (files.0.holds name) draft.0.bytes
   pub work : does (created, worked) source draft (note.0, between) ended
   pub lines : IsShown name ended draft.1.bytes (worked, shown) out (between, later) after
   pub settles : Settles name after draft.1.bytes (shown, files.1) (later, note.1) status

@@ -6,7 +6,7 @@ use Rattle.frame_core.specs.declared.status.Status.{Status}
 use Rattle.frame_core.specs.Outside.{PortState, Writes}
 use Rattle.file_io.specs.declared.calls.Call.TheVariants.{Create}
 use Rattle.file_io.specs.FaultLine.{fault_line, fault_status}
-use Rattle.file_io.specs.Names.{IsEmpty}
+use Rattle.file_io.specs.Names.{Begun}
 use Rattle.file_io.specs.Files.{FilesState, IsUnchanged, Fails}
 use Rattle.file_io.specs.Settling.{Settles}
 use Rattle.file_io.specs.Served.{Pass, Does}
@@ -41,7 +41,7 @@ no_log name reason answers logs old new source out note note' status fails write
 pub logged : (name : List ℕ) (answers logs : Does) (old created answered after_logs new : FilesState)
     (source middle source' : PortState) (out : Pass) (draft draft' note between later note' : PortState)
     (first ended status : Status) →
-    IsUnchanged old created → IsEmpty draft.bytes → answers (created, answered) (source, middle) out (note, between) first →
+    IsUnchanged old created → Begun (old.holds name) draft.bytes → answers (created, answered) (source, middle) out (note, between) first →
     IsAfter first logs (answered, after_logs) (middle, source') (draft, draft') (between, later) ended →
     Settles name ended draft'.bytes (after_logs, new) (later, note') status →
     IsLogged (Some name) answers logs (old, new) (source, source') out (note, note') status
@@ -82,7 +82,7 @@ no_text name reason texts answers old new source out note note' status fails wri
 pub accompanied : (name : List ℕ) (texts answers : Does) (old created written answered new : FilesState)
     (source middle source' : PortState) (out : Pass) (draft draft' note between later note' : PortState)
     (first ended status : Status) →
-    IsUnchanged old created → IsEmpty draft.bytes → texts (created, written) (source, middle) (draft, draft') (note, between) first →
+    IsUnchanged old created → Begun (old.holds name) draft.bytes → texts (created, written) (source, middle) (draft, draft') (note, between) first →
     IsAfter first answers (written, answered) (middle, source') out (between, later) ended →
     Settles name ended draft'.bytes (answered, new) (later, note') status →
     IsAccompanied (Some name) texts answers (old, new) (source, source') out (note, note') status

@@ -2,7 +2,7 @@
 use Rattle.std.specs.Prelude.{◌≡◌, ◌⊎◌, ℕ, List, Option, None, Some}
 use Rattle.frame_core.specs.declared.status.Status.{Status}
 use Rattle.frame_core.specs.Outside.{PortState}
-use Rattle.file_io.specs.Names.{IsEmpty}
+use Rattle.file_io.specs.Names.{Begun}
 use Rattle.file_io.specs.Files.{FilesState, Files, IsUnchanged}
 use Rattle.file_io.specs.Settling.{Settles}
 use Rattle.file_io.specs.Served.{Pass, Does, IsUncreated}
@@ -22,7 +22,7 @@ pub record AreBothWritten (name : List ℕ) (texts answers : Does) (files : File
   pub first : Status
   pub ended : Status
   pub unchanged : IsUnchanged files.0 created
-  pub empty : IsEmpty draft.0.bytes
+  pub empty : Begun (files.0.holds name) draft.0.bytes
   pub text : texts (created, written) (source.0, middle) draft (note.0, between) first
   pub answer : IsAfter first answers (written, answered) (middle, source.1) out (between, later) ended
   pub settles : Settles name ended draft.1.bytes (answered, files.1) (later, note.1) status

@@ -3,7 +3,7 @@ use Rattle.std.specs.Prelude.{◌≡◌, ◌⊎◌, ℕ, List, Option, None, Som
 use Rattle.frame_core.specs.declared.status.Status.{Status}
 use Rattle.frame_core.specs.declared.status.Status.TheVariants as statuses
 use Rattle.frame_core.specs.Outside.{PortState}
-use Rattle.file_io.specs.Names.{IsEmpty}
+use Rattle.file_io.specs.Names.{Begun}
 use Rattle.file_io.specs.Files.{FilesState, Files, IsUnchanged}
 use Rattle.file_io.specs.Settling.{Settles}
 use Rattle.file_io.specs.Served.{Pass, Does, IsUncreated}
@@ -35,7 +35,7 @@ pub record AreWritten (name : List ℕ) (answers logs : Does) (files : Files) (s
   pub first : Status
   pub ended : Status
   pub unchanged : IsUnchanged files.0 created
-  pub empty : IsEmpty draft.0.bytes
+  pub empty : Begun (files.0.holds name) draft.0.bytes
   pub answer : answers (created, answered) (source.0, middle) out (note.0, between) first
   pub log : IsAfter first logs (answered, logged) (middle, source.1) draft (between, later) ended
   pub settles : Settles name ended draft.1.bytes (logged, files.1) (later, note.1) status

@@ -55,11 +55,17 @@ picked (name ∷ options) = taken_all (record { own = name ∷ []; formula = Non
 abbrev pub are_plain_files : List (List ℕ) → Bool
 are_plain_files files = if is_plain_file (first_in files) then is_plain_file (second_in files) else false
 
--- Such a file isn't standard output, nor that of `-o` or `--certificate`.
+-- Neither of the two netlists is in this file.
+abbrev pub is_unread : List ℕ → List (List ℕ) → Bool
+is_unread file files = if is_apart file (first_in files) then is_apart file (second_in files) else false
+
+-- Such a file isn't standard output, nor that of `-o` or `--certificate`, nor one of the netlists.
 abbrev pub is_own_file : List ℕ → Line → Bool
 is_own_file file line =
     if is_standard file then false
-    else (if is_apart file line.output then is_apart file line.certificate else false)
+    else (if is_apart file line.output then
+    (if is_apart file line.certificate then is_unread file line.operands else false)
+    else false)
 
 abbrev pub formula_fits : Option (List ℕ) → Line → Bool
 formula_fits None line = false

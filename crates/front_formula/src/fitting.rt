@@ -4,7 +4,7 @@ ghost use Rattle.std.specs.Option.{option_map};
 ghost use Rattle.std.specs.String.{string_bytes};
 ghost use Rattle.command_line.specs.CommandLine.{IsAskable, IsBudget};
 ghost use Rattle.file_words.specs.Lines.{line_value};
-ghost use Rattle.front_core.specs.Asked.{second_in};
+ghost use Rattle.front_core.specs.Asked.{first_in, second_in, is_apart as is_apart_of};
 ghost use Rattle.front_formula.specs.FormulaAsked.{is_plain_file};
 ghost use Rattle.front_formula.specs.MiterAsked as spec;
 ghost use Rattle.front_formula.specs.MiterValues.{picked_value};
@@ -12,7 +12,7 @@ ghost use Rattle.front_formula.specs.MiterValues.{picked_value};
 use crate::asking::reads_plain_file;
 use crate::picking::MiterWords;
 use command_line::{Command, read_words};
-use file_words::{FileLine, is_standard};
+use file_words::{FileLine, is_same, is_standard};
 use front_core::{fits, is_apart, pair_budget};
 
 /// Whether the second of some files is one that isn't standard input.
@@ -38,7 +38,40 @@ fn are_plain_files(files: &[String]) -> bool
     reads_plain_second(files)
 }
 
-/// Whether a file isn't standard output, nor one that the line names as an output.
+/// Whether a file isn't the first of some files.
+fn is_apart_from_first(file: &String, files: &[String]) -> bool
+    ensures { result ≡ is_apart_of (string_bytes file.now) (first_in (map string_bytes files.now)) }
+{
+    let Some((first, _)) = files.split_first() else {
+        return true;
+    };
+    !is_same(file.as_str(), first.as_str())
+}
+
+/// Whether a file isn't the second of some files.
+fn is_apart_from_second(file: &String, files: &[String]) -> bool
+    ensures { result ≡ is_apart_of (string_bytes file.now) (second_in (map string_bytes files.now)) }
+{
+    let Some((_, others)) = files.split_first() else {
+        return true;
+    };
+    let Some((second, _)) = others.split_first() else {
+        return true;
+    };
+    !is_same(file.as_str(), second.as_str())
+}
+
+/// Whether a file is neither of the two netlists.
+fn is_unread(file: &String, files: &[String]) -> bool
+    ensures { result ≡ spec.is_unread (string_bytes file.now) (map string_bytes files.now) }
+{
+    if !is_apart_from_first(file, files) {
+        return false;
+    }
+    is_apart_from_second(file, files)
+}
+
+/// Whether a file isn't standard output, nor one that the line names to be written or read.
 fn is_own_file(file: &String, line: &FileLine) -> bool
     ensures { result ≡ spec.is_own_file (string_bytes file.now) (line_value line.now) }
 {
@@ -48,7 +81,10 @@ fn is_own_file(file: &String, line: &FileLine) -> bool
     if !is_apart(file, &line.output) {
         return false;
     }
-    is_apart(file, &line.certificate)
+    if !is_apart(file, &line.certificate) {
+        return false;
+    }
+    is_unread(file, &line.operands)
 }
 
 /// Whether the file of `--formula` is named and fits those of the line.

@@ -1,2 +1,3 @@
+mod Options
 mod Pages
 mod Runs

@@ -6,7 +6,7 @@ use Rattle.command_line.specs.declared.command.Command.{Command}
 use Rattle.command_line.specs.declared.command.WordsError.{WordsError}
 use Rattle.command_line.specs.CommandLine.{command_of, or_usage, read}
 use Rattle.front_core.specs.Asked.{IsNotPlain}
-use Rattle.front_guide.specs.Words.{has_help_word}
+use Rattle.front_guide.specs.Words.{asks_for_page}
 
 none_asked : (o : Option Command) (e : WordsError) (c : Command) → Err e ≡ or_usage o → o ≡ Some c → ⊥
 none_asked o e c is other =
@@ -22,8 +22,8 @@ pub if_refused : {A : Type 0} (page : Option A) (words : List (List ℕ)) (e : W
 if_refused None words e is = tt
 if_refused (Some x) words e is = not_plain words e is
 
-pub if_asked : {A : Type 0} (page : Option A) (words : List (List ℕ)) (b : Bool) → b ≡ has_help_word words → b ≡ true →
-    IfSome page (λ _. has_help_word words ≡ true)
+pub if_asked : {A : Type 0} (page : Option A) (words : List (List ℕ)) (b : Bool) → b ≡ asks_for_page words → b ≡ true →
+    IfSome page (λ _. asks_for_page words ≡ true)
 if_asked None words b is holds = tt
 if_asked (Some x) words b is holds = sym is ∙ holds
 

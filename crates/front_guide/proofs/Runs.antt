@@ -10,12 +10,12 @@ use Rattle.file_io.specs.Served.{Pass}
 use Rattle.front_core.specs.Asked.{IsNotPlain}
 use Rattle.front_core.specs.Front.{Promises, front_run}
 use Rattle.front_at.specs.AtRuns.{IsServed}
-use Rattle.front_guide.specs.Words.{has_help_word}
+use Rattle.front_guide.specs.Words.{asks_for_page}
 use Rattle.front_guide.specs.Guided.{IsPageStatus, IsGuided, is_found}
 
 -- a page was written
 pub paged : (formats : FormatPair) (promises : Promises) (words : List (List ℕ)) (files : Files) (source out out' note : PortState)
-    (page : List ℕ) (status : Status) → files.1 ≡ files.0 → IsNotPlain words → has_help_word words ≡ true →
+    (page : List ℕ) (status : Status) → files.1 ≡ files.0 → IsNotPlain words → asks_for_page words ≡ true →
     Writes out out' page → IsPageStatus (out, out') status →
     IsGuided formats promises (front_run words files (source, source) (out, out') (note, note) status)
 paged formats promises words files source out out' note page status same other asks writes is = inl (record {

@@ -9,16 +9,16 @@ use Rattle.file_io.specs.Served.{Pass}
 use Rattle.front_core.specs.Asked.{IsNotPlain}
 use Rattle.front_core.specs.Front.{Promises, FrontRun, front_run}
 use Rattle.front_at.specs.AtRuns.{IsServed}
-use Rattle.front_guide.specs.Words.{has_help_word}
+use Rattle.front_guide.specs.Words.{asks_for_page}
 
 -- A page was written to the output: all of it, or a call failed.
 abbrev pub IsPageStatus : Pass → Status → Type 0
 IsPageStatus out status = (status ≡ Done) ⊎ ((status ≡ WriteFault) × Rose out.0.faults out.1.faults)
 
--- The words, which are no command line as they are, ask for help, and a page went to the output. Nothing else happened.
+-- The words, which are no command line as they are, ask for a page, and one went to the output. Nothing else happened.
 pub record IsPaged (r : FrontRun) : Type 0 where
   pub other : IsNotPlain r.words
-  pub asks : has_help_word r.words ≡ true
+  pub asks : asks_for_page r.words ≡ true
   pub page : List ℕ
   pub on_out : Writes r.out.0 r.out.1 page
   pub status_is : IsPageStatus r.out r.status

@@ -4,6 +4,7 @@ use crate::remembering::{Recalls, Retells};
 use command_line::{Command, Format, read_words};
 use error_help::{Input, Inputs, Subject, push_explained};
 use file_words::{FileLine, is_standard, read_line};
+use format_names::{FormatPair, NetFormat};
 use frame_core::Status;
 use front_large::{Large, large_in};
 use help_text::push_wrong_words;
@@ -112,10 +113,20 @@ fn second_of<'a>(
     }
 }
 
+/// What a netlist in a format is.
+fn netlist_in(format: NetFormat) -> Subject {
+    match format {
+        NetFormat::Blif => Subject::Blif,
+        NetFormat::Bench => Subject::Bench,
+        NetFormat::Aiger => Subject::Aiger,
+    }
+}
+
 /// Appends the line of a command over the files of its line, of which these bytes were read again.
 fn push_of_inputs<'a>(
     text: &mut Vec<u8>,
     subject: Subject,
+    formats: FormatPair,
     files: &'a [String],
     bytes: &'a Option<Vec<u8>>,
     other_bytes: &'a Option<Vec<u8>>,
@@ -129,7 +140,13 @@ fn push_of_inputs<'a>(
     };
     let first = first_of(files, bytes, seen);
     let second = second_of(files, first, other_bytes, seen);
-    push_explained(text, subject, error_line, &Inputs { first, second })?;
+    let inputs = Inputs {
+        first,
+        second,
+        first_format: netlist_in(formats.first),
+        second_format: netlist_in(formats.second),
+    };
+    push_explained(text, subject, error_line, &inputs)?;
     Ok(())
 }
 
@@ -158,10 +175,33 @@ fn line_subject(alloc: Global, words: &Vec<String>) -> Option<Subject> {
     }
 }
 
+/// Whether words ask for a miter, which is of netlists in BLIF.
+fn names_formula(words: &[String]) -> bool {
+    for word in words {
+        if word.as_bytes() == b"--formula".as_slice() {
+            return true;
+        }
+    }
+    false
+}
+
+/// The formats in which two netlists are read, where the words of a line ask for these.
+fn read_as(asked: FormatPair, words: &[String]) -> FormatPair {
+    if names_formula(words) {
+        FormatPair {
+            first: NetFormat::Blif,
+            second: NetFormat::Blif,
+        }
+    } else {
+        asked
+    }
+}
+
 /// Appends the line of words that may name files.
 fn push_of_line<R: Rereads>(
     alloc: Global,
     text: &mut Vec<u8>,
+    formats: FormatPair,
     line: &FileLine,
     seen: &[u8],
     is_whole: bool,
@@ -176,6 +216,7 @@ fn push_of_line<R: Rereads>(
     push_of_inputs(
         text,
         subject,
+        read_as(formats, &line.words),
         &line.operands,
         &bytes,
         &other_bytes,
@@ -185,9 +226,10 @@ fn push_of_line<R: Rereads>(
     )
 }
 
-/// The line for people of a run without an answer; empty if there is nothing to say.
+/// The line for people of a run without an answer; empty if there is nothing to say. Two netlists are in these formats.
 fn line_for<S: Recalls, N: Retells, R: Rereads>(
     alloc: Global,
+    formats: FormatPair,
     words: &Vec<String>,
     status: Status,
     source: &S,
@@ -202,6 +244,7 @@ fn line_for<S: Recalls, N: Retells, R: Rereads>(
                 push_of_line(
                     alloc,
                     &mut text,
+                    formats,
                     &line,
                     source.seen(),
                     source.is_whole(),
@@ -219,13 +262,14 @@ fn line_for<S: Recalls, N: Retells, R: Rereads>(
 /// The same; empty if memory runs out.
 pub(crate) fn people_line<S: Recalls, N: Retells, R: Rereads>(
     alloc: Global,
+    formats: FormatPair,
     words: &Vec<String>,
     status: Status,
     source: &S,
     note: &N,
     reader: &R,
 ) -> Vec<u8> {
-    match line_for(alloc, words, status, source, note, reader) {
+    match line_for(alloc, formats, words, status, source, note, reader) {
         Ok(text) => text,
         Err(_) => Vec::new(alloc),
     }

@@ -1,5 +1,5 @@
 //! A run that helps people.
-ghost use Rattle.std.specs.Prelude.{◌≡◌, ◌≤◌, map, IfSome, true};
+ghost use Rattle.std.specs.Prelude.{◌≡◌, ◌≤◌, map, IfSome, true, false};
 ghost use Rattle.std.specs.String.{string_bytes};
 ghost use Rattle.command_line.specs.CommandLine.{spelled};
 ghost use Rattle.file_io.specs.Files.{files_before_after};
@@ -30,29 +30,55 @@ fn is_word(word: &[u8], name: &[u8]) -> bool
     word == name
 }
 
-/// Whether a word asks for help.
+/// Whether an option asks for help.
+fn is_help_option(word: &[u8]) -> bool
+    ensures { result ≡ spec.is_help_option word.now }
+{
+    is_word(word, b"--help") || is_word(word, b"-h")
+}
+
+/// Whether a first word asks for help.
 fn is_help_word(word: &[u8]) -> bool
     ensures { result ≡ spec.is_help_word word.now }
 {
-    is_word(word, b"help")
-        || is_word(word, b"--help")
-        || is_word(word, b"-h")
-        || is_word(word, b"--version")
+    is_word(word, b"help") || is_help_option(word) || is_word(word, b"--version")
 }
 
-/// Whether one of some words asks for help.
-#[tactic(auto, unfolding(crate::specs::Words::has_help_word))]
-fn has_help_word(words: &[String]) -> bool
-    ensures { result ≡ spec.has_help_word (map string_bytes words.now) }
+/// Whether an option asks for help, before `--`.
+#[tactic(auto, unfolding(crate::specs::Words::names_help), using(crate::proofs::Options::naming))]
+fn names_help(words: &[String]) -> bool
+    ensures { result ≡ spec.names_help false (map string_bytes words.now) }
 {
     let mut left = words;
+    let mut is_file = false;
     while let Some((word, rest)) = left.split_first() {
-        if is_help_word(word.as_bytes()) {
+        let bytes = word.as_bytes();
+        if is_file {
+            is_file = false;
+        } else if is_word(bytes, b"--") {
+            return false;
+        } else if is_help_option(bytes) {
             return true;
+        } else {
+            is_file = is_word(bytes, b"-o");
         }
         left = rest;
     }
     false
+}
+
+/// Whether words ask for a page.
+#[tactic(auto, unfolding(crate::specs::Words::asks_for_page))]
+fn asks_for_page(words: &[String]) -> bool
+    ensures { result ≡ spec.asks_for_page (map string_bytes words.now) }
+{
+    let Some((first, rest)) = words.split_first() else {
+        return false;
+    };
+    if is_help_word(first.as_bytes()) {
+        return true;
+    }
+    names_help(rest)
 }
 
 /// The page that words ask for; None if they ask for none, or memory runs out.
@@ -64,9 +90,9 @@ fn page_of(alloc: Global, words: &Vec<String>) -> Option<Vec<u8>> {
 #[tactic(auto, using(crate::proofs::Pages::asking))]
 fn page_for(alloc: Global, words: &Vec<String>) -> Option<Vec<u8>>
     ensures other { IfSome result (λ _. IsNotPlain (spelled words.now)) }
-    ensures asks { IfSome result (λ _. spec.has_help_word (spelled words.now) ≡ true) }
+    ensures asks { IfSome result (λ _. spec.asks_for_page (spelled words.now) ≡ true) }
 {
-    if !has_help_word(words) {
+    if !asks_for_page(words) {
         return None;
     }
     match read_words(words) {
@@ -133,7 +159,7 @@ pub fn guide<P: Program, W: Outside, S: Recalls, O: Sink, N: Retells, R: Rereads
     if is_found(status) {
         return status;
     }
-    let hint = people_line(alloc, words, status, source, note, reader);
+    let hint = people_line(alloc, formats, words, status, source, note, reader);
     write_hint(note, &hint);
     status
 }

@@ -3,7 +3,22 @@
 use error_help::{Input, Inputs, Subject, push_explained};
 use std::alloc::Global;
 
-/// Whether this is the line after an error line, where both inputs are of this text; none if it is empty.
+/// Whether this is the line after an error line; none if it is empty.
+fn is_line(
+    alloc: Global,
+    subject: Subject,
+    error_line: &str,
+    inputs: &Inputs,
+    wanted: &str,
+) -> bool {
+    let mut line = Vec::new(alloc);
+    match push_explained(&mut line, subject, error_line.as_bytes(), inputs) {
+        Ok(is_there) => { is_there != wanted.is_empty() && line.as_slice() == wanted.as_bytes() }
+        Err(_) => false,
+    }
+}
+
+/// The same, where both inputs are of this text.
 fn is_explained(
     alloc: Global,
     subject: Subject,
@@ -19,16 +34,38 @@ fn is_explained(
         name: b"b",
         bytes: Some(text.as_bytes()),
     };
-    let mut line = Vec::new(alloc);
-    match push_explained(
-        &mut line,
-        subject,
-        error_line.as_bytes(),
-        &Inputs { first, second },
-    ) {
-        Ok(is_there) => { is_there != wanted.is_empty() && line.as_slice() == wanted.as_bytes() }
-        Err(_) => false,
-    }
+    let inputs = Inputs {
+        first,
+        second,
+        first_format: Subject::Blif,
+        second_format: Subject::Blif,
+    };
+    is_line(alloc, subject, error_line, &inputs, wanted)
+}
+
+/// The same of two netlists, of which the first has this format and text, and the second another text in BLIF.
+fn is_of_format(
+    alloc: Global,
+    format: Subject,
+    error_line: &str,
+    text: &str,
+    wanted: &str,
+) -> bool {
+    let first = Input {
+        name: b"a",
+        bytes: Some(text.as_bytes()),
+    };
+    let second = Input {
+        name: b"b",
+        bytes: Some(NETLIST.as_bytes()),
+    };
+    let inputs = Inputs {
+        first,
+        second,
+        first_format: format,
+        second_format: Subject::Blif,
+    };
+    is_line(alloc, Subject::Pair, error_line, &inputs, wanted)
 }
 
 const NETLIST: &str =
@@ -119,6 +156,56 @@ fn a_line_says_where_and_what(rt: HostRuntime) {
     for &(subject, error_line, text, wanted) in LINES {
         assert!(rt;
             is_explained(rt.alloc(), subject, error_line, text, wanted),
+            "{error_line}"
+        );
+    }
+}
+
+/// The format of the first of two netlists, the error line, its text, and the line after it.
+const FORMATS: &[(Subject, &str, &str, &str)] = &[
+    (
+        Subject::Bench,
+        "error: First Syntax 2",
+        GATES,
+        "a:2: OUTPUT(y): `INPUT(a)`, `OUTPUT(y)` or `y = AND(a, b)` (batsokemi help bench)\n",
+    ),
+    (
+        Subject::Bench,
+        "error: First Undriven b",
+        GATES,
+        "a:3: b: an input, a table or gate, or a latch drives each name that is read\n",
+    ),
+    (
+        Subject::Aiger,
+        "error: First Syntax 1",
+        "aag 3 2\n",
+        "a:1: aag 3 2: `aag M I L O A`, then inputs, latches, outputs, gates and symbols (batsokemi help aiger)\n",
+    ),
+    (
+        Subject::Blif,
+        "error: First Syntax 1",
+        "aag 3 2\n",
+        "a:1: aag 3 2: a statement as `.names a b y`, or a line of its table as `1- 1` (batsokemi help blif)\n",
+    ),
+    (
+        Subject::Blif,
+        "error: DifferentInterface",
+        ".inputs a c\n",
+        "a:1: c: b has no input of this name\n",
+    ),
+    (
+        Subject::Bench,
+        "error: DifferentInterface",
+        GATES,
+        "a: the same inputs, outputs and clocks in the same order, and the same latches\n",
+    ),
+];
+
+#[test]
+fn a_line_speaks_of_the_format(rt: HostRuntime) {
+    for &(format, error_line, text, wanted) in FORMATS {
+        assert!(rt;
+            is_of_format(rt.alloc(), format, error_line, text, wanted),
             "{error_line}"
         );
     }

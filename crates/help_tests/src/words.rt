@@ -80,6 +80,18 @@ const WRONG: &[(&str, &str)] = &[
         "batsokemi: equiv needs --formula with a value: the name of a file (batsokemi help equiv)\n",
     ),
     (
+        "equiv --formula f --log f a b",
+        "batsokemi: --formula and --log name one file (batsokemi help equiv)\n",
+    ),
+    (
+        "equiv --formula b a b",
+        "batsokemi: --formula names a file of its own, and not one of the netlists (batsokemi help equiv)\n",
+    ),
+    (
+        "equiv --formula f --log a -- a b",
+        "batsokemi: --log names a file of its own, and not one of the netlists (batsokemi help equiv)\n",
+    ),
+    (
         "equiv --at 01x a b",
         "batsokemi: --at takes characters 0 and 1, or - for none, and not '01x' (batsokemi help equiv)\n",
     ),

@@ -4,7 +4,7 @@ use crate::commands::{CommandName, name_of};
 use crate::options::{Row, row_named};
 use crate::pen::{Part, push_parts};
 use crate::phrases::{push_takes, push_word};
-use crate::values::{count_files, ends_with, first_file, has_value, value_of};
+use crate::values::{ends_with, file_at, has_value, value_of};
 use op_basis::{BENCH, read_basis};
 use std::alloc::AllocError;
 
@@ -17,8 +17,10 @@ pub(crate) enum Clash<'a> {
     NotByFence,
     /// `--format bench` with an operator that BENCH doesn't have.
     NotOfBench(&'a [u8]),
-    /// `-o` and this option name one file.
-    OneFile(&'static [u8]),
+    /// These two options name one file.
+    OneFile(&'static [u8], &'static [u8]),
+    /// This option names one of the two netlists.
+    Netlist(&'static [u8]),
     /// This option names standard output.
     ToOutput(&'static [u8]),
     /// `--log` without a certificate that is a file.
@@ -44,7 +46,7 @@ fn is_beyond_bench(word: &[u8]) -> bool {
 fn is_bench(words: &[String]) -> bool {
     match value_of(b"--format", words) {
         Some(format) => format == b"bench".as_slice(),
-        None => match first_file(words) {
+        None => match file_at(0, words) {
             Some(file) => ends_with(file, b".bench"),
             None => false,
         },
@@ -59,10 +61,10 @@ fn improve_clash(words: &[String]) -> Option<Clash<'_>> {
     }
 }
 
-/// Whether `-o` and another option name one file.
-fn is_one_file(name: &[u8], words: &[String]) -> bool {
-    match (value_of(b"-o", words), value_of(name, words)) {
-        (Some(output), Some(file)) => output == file,
+/// Whether two options name one file.
+fn is_one_file(name: &[u8], other: &[u8], words: &[String]) -> bool {
+    match (value_of(name, words), value_of(other, words)) {
+        (Some(file), Some(other_file)) => file == other_file,
         _ => false,
     }
 }
@@ -75,39 +77,63 @@ fn formula_clash(words: &[String]) -> Option<Clash<'_>> {
     if log == b"-".as_slice() {
         return Some(Clash::ToOutput(b"--log"));
     }
-    if is_one_file(b"--log", words) {
-        return Some(Clash::OneFile(b"--log"));
+    if is_one_file(b"-o", b"--log", words) {
+        return Some(Clash::OneFile(b"-o", b"--log"));
     }
-    match first_file(words) {
+    match file_at(0, words) {
         Some(file) if file != b"-".as_slice() => None,
         _ => Some(Clash::LogOfInput),
     }
 }
 
-/// What the files of a miter need.
-fn miter_clash(words: &[String]) -> Option<Clash<'_>> {
-    let Some(row) = row_named(CommandName::Equiv, b"--formula") else {
-        return None;
-    };
-    let Some(formula) = value_of(b"--formula", words) else {
-        return match value_of(b"--log", words) {
-            Some(_) => Some(Clash::Needed(row)),
-            None => None,
-        };
-    };
-    if formula == b"-".as_slice() {
-        return Some(Clash::ToOutput(b"--formula"));
+/// Whether an option names one of the two netlists.
+fn is_netlist(name: &[u8], words: &[String]) -> bool {
+    match value_of(name, words) {
+        Some(file) => file_at(0, words) == Some(file) || file_at(1, words) == Some(file),
+        None => false,
     }
-    if is_one_file(b"--formula", words) {
-        return Some(Clash::OneFile(b"--formula"));
+}
+
+/// What a file needs that comes with a miter; `name` is the option that names it.
+fn own_file_clash(name: &'static [u8], words: &[String]) -> Option<Clash<'static>> {
+    if has_value(name, b"-", words) {
+        return Some(Clash::ToOutput(name));
     }
-    if has_value(b"--log", b"-", words) {
-        return Some(Clash::ToOutput(b"--log"));
+    if is_one_file(b"-o", name, words) {
+        return Some(Clash::OneFile(b"-o", name));
     }
-    if is_one_file(b"--log", words) {
-        return Some(Clash::OneFile(b"--log"));
+    if is_one_file(b"--certificate", name, words) {
+        return Some(Clash::OneFile(b"--certificate", name));
+    }
+    if is_netlist(name, words) {
+        return Some(Clash::Netlist(name));
     }
     None
+}
+
+/// What the files of a miter need.
+fn files_clash(words: &[String]) -> Option<Clash<'static>> {
+    if let Some(clash) = own_file_clash(b"--formula", words) {
+        return Some(clash);
+    }
+    if is_one_file(b"--formula", b"--log", words) {
+        return Some(Clash::OneFile(b"--formula", b"--log"));
+    }
+    own_file_clash(b"--log", words)
+}
+
+/// What a miter needs.
+fn miter_clash(words: &[String]) -> Option<Clash<'static>> {
+    if value_of(b"--formula", words).is_some() {
+        return files_clash(words);
+    }
+    if value_of(b"--log", words).is_none() {
+        return None;
+    }
+    match row_named(CommandName::Equiv, b"--formula") {
+        Some(row) => Some(Clash::Needed(row)),
+        None => None,
+    }
 }
 
 /// What goes with `--at`.
@@ -117,7 +143,7 @@ fn bits_clash(words: &[String]) -> Option<Clash<'_>> {
             return Some(Clash::NotWithBits(name));
         }
     }
-    if count_files(words) < 2 {
+    if file_at(1, words).is_none() {
         return Some(Clash::TwoForBits);
     }
     None
@@ -159,8 +185,8 @@ fn gen_clash(words: &[String]) -> Option<Clash<'_>> {
 
 /// What options ask of each other.
 pub(crate) fn first_clash(command: CommandName, words: &[String]) -> Option<Clash<'_>> {
-    if is_one_file(b"--certificate", words) {
-        return Some(Clash::OneFile(b"--certificate"));
+    if is_one_file(b"-o", b"--certificate", words) {
+        return Some(Clash::OneFile(b"-o", b"--certificate"));
     }
     match command {
         CommandName::Synth => synth_clash(words),
@@ -195,12 +221,20 @@ pub(crate) fn push_clash(
             word,
             b"",
         ),
-        Clash::OneFile(name) => push_parts(
+        Clash::OneFile(name, other) => push_parts(
             text,
             &[
-                Part::Text(b"-o and "),
                 Part::Text(name),
+                Part::Text(b" and "),
+                Part::Text(other),
                 Part::Text(b" name one file"),
+            ],
+        ),
+        Clash::Netlist(name) => push_parts(
+            text,
+            &[
+                Part::Text(name),
+                Part::Text(b" names a file of its own, and not one of the netlists"),
             ],
         ),
         Clash::ToOutput(name) => push_parts(

@@ -312,7 +312,7 @@ const EQUIV: &[Row] = &[
         value: b"FILE",
         allowed: Allowed::File,
         default: Default::Nothing,
-        says: b"with --formula: where the netlists are equal, the log goes to FILE as plain LRAT",
+        says: b"with --formula, of two BLIF files: where they are equal, the log goes to FILE as plain LRAT",
     },
     Row {
         name: b"--at",

@@ -260,8 +260,9 @@ which the first ends with `.end`.
 The error `DifferentInterface`: inputs, outputs and clocks, in order, and each latch's output, control and
 initial value must be the same.
 
-With --formula the miter of two files is written besides, for other programs, and with --log the log of
-`equal`; the ids of its hints are the numbers of the clauses. The netlists are then compared once more.
+With --formula the miter of two files in BLIF is written besides, for other programs, and with --log the
+log of `equal`; the ids of its hints are the numbers of the clauses. The netlists are then compared once
+more. Both options name files of their own.
 
 With --at nothing is compared: two files are simulated where the inputs and latches have the bits of BITS,
 as of the line `at BITS`. The first line says whether they are `equal` or `differ` there; then come lines

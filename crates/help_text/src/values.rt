@@ -37,27 +37,8 @@ pub(crate) fn has_value(name: &[u8], value: &[u8], words: &[String]) -> bool {
     }
 }
 
-/// The first file among words; None if there is none.
-pub(crate) fn first_file(words: &[String]) -> Option<&[u8]> {
-    let mut are_files = false;
-    let mut is_value = false;
-    for word in words {
-        let bytes = word.as_bytes();
-        if is_value {
-            is_value = false;
-        } else if !are_files && bytes == b"--".as_slice() {
-            are_files = true;
-        } else if !are_files && is_option(bytes) {
-            is_value = true;
-        } else {
-            return Some(bytes);
-        }
-    }
-    None
-}
-
-/// How many files there are among words.
-pub(crate) fn count_files(words: &[String]) -> usize {
+/// The file at a place among the files of words, from 0; None if there are fewer.
+pub(crate) fn file_at(place: usize, words: &[String]) -> Option<&[u8]> {
     let mut files: usize = 0;
     let mut are_files = false;
     let mut is_value = false;
@@ -69,11 +50,13 @@ pub(crate) fn count_files(words: &[String]) -> usize {
             are_files = true;
         } else if !are_files && is_option(bytes) {
             is_value = true;
+        } else if files == place {
+            return Some(bytes);
         } else {
             files = files.saturating_add(1);
         }
     }
-    files
+    None
 }
 
 /// Whether a word spells bits: by `0` and `1`, or none by `-`.
