@@ -34,17 +34,19 @@ pub ruleset performing = (common_steps, performed_values)
 
 -- ---- an answer
 
--- the files by their names
-pub answered : (formats : FormatPair) (line : Line) (bits : List Bool) (first second : Option (List ℕ)) (files : Files)
-    (source out note : Pass) (status : Status) → first ≡ name_in (first_in line.operands) →
+-- the files by their names, and the bits as a slice
+pub answered : (formats : FormatPair) (line : Line) (bits slice : List Bool) (first second : Option (List ℕ)) (files : Files)
+    (source out note : Pass) (status : Status) → slice ≡ bits → first ≡ name_in (first_in line.operands) →
     second ≡ name_in (second_in line.operands) →
-    ((all : List (List ℕ)) → IsDone line (IsPaired first second (WritesValues formats bits)) (front_run all files source out note status)) →
+    ((all : List (List ℕ)) → IsDone line (IsPaired first second (WritesValues formats slice)) (front_run all files source out note status)) →
     (words : List (List ℕ)) → AreValuesDone formats line bits (front_run words files source out note status)
-answered formats line bits first second files source out note status i k done words =
+answered formats line bits slice first second files source out note status same i k done words =
     subst (λ (x : Option (List ℕ)). IsDone line
     (IsPaired x (name_in (second_in line.operands)) (WritesValues formats bits)) (front_run words files source out note status)) i
     (subst (λ (x : Option (List ℕ)). IsDone line
-    (IsPaired first x (WritesValues formats bits)) (front_run words files source out note status)) k (done words))
+    (IsPaired first x (WritesValues formats bits)) (front_run words files source out note status)) k
+    (subst (λ (x : List Bool). IsDone line
+    (IsPaired first second (WritesValues formats x)) (front_run words files source out note status)) same (done words)))
 
 pub ruleset answers = (common_steps, answered)
 
