@@ -3,6 +3,7 @@
 from __future__ import annotations
 
 import os
+import warnings
 from collections.abc import Sequence
 from functools import lru_cache
 from typing import Literal, Union
@@ -271,6 +272,11 @@ def equiv(first: Text, second: Text, *, conflicts: int | None = None, engine: En
     MalformedError, LimitError, RefusedError, MemoryFault
         If a netlist isn't of its form, is empty or beyond a limit, the interfaces differ, or there is no memory.
 
+    Warns
+    -----
+    UserWarning
+        If neither netlist has an output or latch, so that nothing is compared.
+
     Examples
     --------
     >>> copy = '.inputs a\\n.outputs y\\n.names a y\\n1 1\\n.end\\n'
@@ -278,4 +284,6 @@ def equiv(first: Text, second: Text, *, conflicts: int | None = None, engine: En
     (True, False)
     """
     run = answered_pair(engine or default_engine(), bytes_of(first), bytes_of(second), conflicts=conflicts)
+    if run.notes:
+        warnings.warn(run.notes.decode().strip(), stacklevel=2)
     return Equivalence.read(run.output)
