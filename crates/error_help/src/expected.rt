@@ -146,3 +146,12 @@ pub(crate) fn most_bytes(subject: Subject) -> usize {
         Subject::Pair => MOST_OF_TWO,
     }
 }
+
+/// What a line says after the most bytes: an option sets those of a certificate.
+pub(crate) fn after_most_bytes(subject: Subject) -> &'static [u8] {
+    match subject {
+        Subject::Certificate | Subject::Depth =>
+            b" bytes are read, unless --most-bytes says otherwise",
+        _ => b" bytes are read",
+    }
+}

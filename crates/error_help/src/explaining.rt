@@ -1,6 +1,8 @@
 //! The line for people after an error line.
 
-use crate::expected::{Entry, Place, Subject, entry_of, most_bytes, step_entry, word_entry};
+use crate::expected::{
+    Entry, Place, Subject, after_most_bytes, entry_of, most_bytes, step_entry, word_entry,
+};
 use crate::finding::line_of;
 use crate::interfaces::push_difference;
 use crate::netlists::{Role, line_of_name};
@@ -182,7 +184,7 @@ fn push_too_long(text: &mut Vec<u8>, subject: Subject, input: Input) -> Result<(
         &[
             Part::Text(b"at most "),
             Part::Count(most_bytes(subject)),
-            Part::Text(b" bytes are read"),
+            Part::Text(after_most_bytes(subject)),
         ],
     )
 }
