@@ -77,7 +77,7 @@ class Parts(unittest.TestCase):
         """Without a chain, with a chain that a part finds, and with sizes that are left open."""
         ends: tuple[tuple[dict[str, object], str], ...] = (
             ({'max_steps': 2}, 'none 2'),
-            ({'max_steps': 2, 'basis': 'nand', 'conflicts': 1}, 'open 2'),
+            ({'max_steps': 3, 'basis': 'nand', 'conflicts': 1}, 'open 3'),
             ({'conflicts': 1, 'method': 'ssv'}, 'bounded 2 6'),
         )
         for given, verdict in ends:
