@@ -1,6 +1,6 @@
 -- The AIGER file that the writer makes of a circuit: AND gates with complements. AND and OR, with complements of their
 -- operands and of their results, are one gate each, and constants, copies and complements none; XOR and XNOR can't be
--- written. No code makes it yet, and no clause of the reader rests on it; `aiger_laws` proves what it lists.
+-- written. `aiger_write` makes it, and no clause of the reader rests on it; `aiger_laws` proves what it lists.
 use Rattle.std.specs.Prelude.{ℕ, zero, suc, ◌+◌, ◌-◌, ◌*◌, ◌%◌, Bool, true, false, ◌||◌, ◌==◌, nat_le, if◌then◌else◌, List, [], ◌∷◌, ◌++◌}
 use Rattle.std.specs.Prelude.{length, map, Option, Some, None, slice_index_or}
 use Rattle.std.proofs.Common.{drop, take}

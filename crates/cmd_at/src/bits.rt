@@ -1,5 +1,5 @@
 //! The bits of the sources as a word of a command line.
-ghost use Rattle.std.specs.Prelude.{◌≡◌, ◌++◌, Bool, Vec, map, IfOk, OnOk};
+ghost use Rattle.std.specs.Prelude.{◌≡◌, Bool, Vec, map, IfOk};
 ghost use Rattle.std.specs.Global.{Global};
 ghost use Rattle.std.specs.Option.{option_map};
 ghost use Rattle.command_line.specs.Options.{is_word as is_word_of};

@@ -1,5 +1,5 @@
 //! The values of two circuits.
-ghost use Rattle.std.specs.Prelude.{◌≡◌, ◌≤◌, length, IfOk, IfErr};
+ghost use Rattle.std.specs.Prelude.{◌≡◌, length, IfOk, IfErr};
 ghost use Rattle.net_theory.specs.Circuit.{IsProper};
 ghost use Rattle.equiv_theory.specs.Counterexample.{HaveSameInterface};
 ghost use Rattle.equiv_run.specs.CircuitAnswers.{IsOther};

@@ -1,5 +1,5 @@
 //! The text of the values.
-ghost use Rattle.std.specs.Prelude.{◌≡◌, ◌++◌, ◌∷◌, [], ◌+◌, ◌≤◌, length, map, OnOk, IfOk};
+ghost use Rattle.std.specs.Prelude.{◌≡◌, ◌++◌, ◌+◌, ◌≤◌, length, map, OnOk, IfOk};
 ghost use Rattle.net_theory.specs.Document.{latch_output};
 ghost use Rattle.net_theory.specs.Circuit.{sources_of};
 ghost use Rattle.equiv_run.specs.Texts.{character as character_of, characters, bits_text, sink_text};

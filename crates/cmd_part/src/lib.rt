@@ -1,5 +1,5 @@
-//! A part of a certificate, searched alone: `synth --size R --part P`. A part is a subproblem of a size: the whole size,
-//! or by fences one of its fences.
+//! A part of a certificate, searched alone: `synth --size R --part P`. A part is a subproblem of a size: the whole
+//! size, or by fences one of its fences.
 //!
 //! `WritePart` is the command for `frame_core` over tables. It solves the formula of the part alone and writes what
 //! stands in a certificate for it: its fence, `refuted` or `open`, the log, and `done`. Where the formula is

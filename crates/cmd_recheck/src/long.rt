@@ -1,5 +1,5 @@
 //! Certificates of more bytes than the program without files reads: the caller names the most.
-ghost use Rattle.std.specs.Prelude.{◌≡◌, refl};
+ghost use Rattle.std.specs.Prelude.{refl};
 ghost use Rattle.cmd_recheck.specs.LongReport.{long_task, long_depth_task};
 
 use crate::job::CertificateKind;

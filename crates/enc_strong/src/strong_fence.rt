@@ -11,8 +11,9 @@ use op_basis::Basis;
 use std::alloc::{AllocError, Global};
 use tt_core::Spec;
 
-/// The formulas of fences with the exchange cut with complements, at most one pair a step, and the steps that differ on
-/// each edge of the tables. A size has one subproblem for each listed fence of the live outputs, in lexicographic order.
+/// The formulas of fences with the exchange cut with complements, at most one pair a step, and the steps that differ
+/// on each edge of the tables. A size has one subproblem for each listed fence of the live outputs, in lexicographic
+/// order.
 #[derive(Clone, Copy)]
 pub struct StrongFence;
 

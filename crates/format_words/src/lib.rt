@@ -1,9 +1,9 @@
-//! The formats of netlists that words of the front ask for, beyond those of `command_line`: AIGER for `improve`, and any
-//! format for each of the two files of `equiv`.
+//! The formats of netlists that words of the front ask for, beyond those of `command_line`: AIGER for `improve`, and
+//! any format for each of the two files of `equiv`.
 //!
-//! A format is named by `--format aiger`, or by the end of a file's name (`.aag`, `.aig`, `.bench`). `read_formats` says
-//! what is asked (`specs/FormatsAsked.antt`), and which words mean the same to a program that knows no such format:
-//! `--format` is left out, and `improve` of AIGER gets the basis `u2` if none is named.
+//! A format is named by `--format aiger`, or by the end of a file's name (`.aag`, `.aig`, `.bench`). `read_formats`
+//! says what is asked (`specs/FormatsAsked.antt`), and which words mean the same to a program that knows no such
+//! format: `--format` is left out, and `improve` of AIGER gets the basis `u2` if none is named.
 //!
 //! ```text
 //! let found = read_formats(alloc, &words)?; // of improve a.aag --cap 4

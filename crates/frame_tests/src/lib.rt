@@ -1,7 +1,7 @@
-//! Two small commands for tests of `frame_core`: one reads nothing and reports in parts, the other writes its
-//! text in pieces. Each is proved to implement its task (`specs/Small`), so the promise of every command holds
-//! for them. The tests run them in memory, with fault injection. For tests of `file_io` and `front_core` there are files
-//! in memory, whose calls can be made to fail, and a small program over them.
+//! Two small commands for tests of `frame_core`: one reads nothing and reports in parts, the other writes its text in
+//! pieces. Each is proved to implement its task (`specs/Small`), so the promise of every command holds for them. The
+//! tests run them in memory, with fault injection. For tests of `file_io` and `front_core` there are files in memory,
+//! whose calls can be made to fail, and a small program over them.
 #![tactic(auto)]
 
 mod echo;

@@ -1,7 +1,7 @@
 //! The programs of the front: that of `chain_app`, with the formats of its comparisons, and `improve` over AIGER.
 ghost use Rattle.std.specs.Prelude.{◌≤◌, length};
 ghost use Rattle.net_theory.specs.Limits.{most_of_netlist};
-ghost use Rattle.command_line.specs.CommandLine.{spelled, IsBudget};
+ghost use Rattle.command_line.specs.CommandLine.{IsBudget};
 ghost use Rattle.frame_core.specs.Run.{before_after};
 ghost use Rattle.front_app.specs.Comparison.{KeepsComparison};
 

@@ -1,5 +1,4 @@
 //! The front for the programs of this crate.
-ghost use Rattle.std.specs.Prelude.{◌≡◌};
 ghost use Rattle.command_line.specs.CommandLine.{spelled};
 ghost use Rattle.frame_core.specs.Run.{before_after};
 ghost use Rattle.chain_app.specs.KeepsPromises.{KeepsPromises};

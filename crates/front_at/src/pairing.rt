@@ -195,8 +195,8 @@ fn pair_named<K: OverText, W: Outside, S: Source, O: Sink, N: Sink>(
     )
 }
 
-/// What is done with the texts of two inputs, which are never joined, as work: those of the files that are named, or that
-/// of the source.
+/// What is done with the texts of two inputs, which are never joined, as work: those of the files that are named, or
+/// that of the source.
 #[derive(Drop)]
 pub struct Pairing<'a, K> {
     /// The file of the first text; None for the source.

@@ -50,8 +50,8 @@ fn serve_values<W: Outside, S: Source, O: Sink, N: Sink>(
     serve_outputs(alloc, &pairing, &asked.line, outside, source, out, note)
 }
 
-/// Reads words that may name files: it writes the values that they ask for, of netlists in these formats, and any others
-/// it serves as `front_large` does.
+/// Reads words that may name files: it writes the values that they ask for, of netlists in these formats, and any
+/// others it serves as `front_large` does.
 #[tactic(auto, using(crate::proofs::Runs::runs))]
 pub fn serve<P: Program, W: Outside, S: Source, O: Sink, N: Sink>(
     alloc: Global,

@@ -5,7 +5,7 @@ use crate::options::{Allowed, Row, default_of, options_of};
 use crate::pen::{Part, push_parts};
 use std::alloc::AllocError;
 
-/// Appends the kind of an option: `number LOW HIGH`, `word WORD..`, `basis` or `file`.
+/// Appends the kind of an option: `number LOW HIGH`, `word WORD..`, `basis`, `bits` or `file`.
 fn push_kind(table: &mut Vec<u8>, allowed: Allowed) -> Result<(), AllocError> {
     match allowed {
         Allowed::Number(low, high) => push_parts(

@@ -43,8 +43,8 @@ pub fn exchange_clauses_ask_for_the_cut()
         Satisfies v (npn_fence_formula w basis r fence) → Satisfies v (fence_formula w basis r fence) }
 {}
 
-/// The formula by `strong`, that of SSV, strengthened, with the cut: if it is satisfiable, a chain of r steps implements
-/// the tables; if r is the minimum size of such a chain, it is satisfiable.
+/// The formula by `strong`, that of SSV, strengthened, with the cut: if it is satisfiable, a chain of r steps
+/// implements the tables; if r is the minimum size of such a chain, it is satisfiable.
 pub fn npn_asks_for_a_least_chain()
     ensures formula { (w : Words) (basis r : ℕ) → IsFormula (npn_formula w basis r) }
     ensures sound { (w : Words) (basis r : ℕ) → IsSatisfiable (npn_formula w basis r) →

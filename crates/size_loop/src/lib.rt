@@ -2,11 +2,11 @@
 //! certificate. The crate rests on `cert_theory` for what a certificate is, on the trait of encodings for the
 //! formulas, and on the trait of solvers: every call is generic in the solver `S`.
 //!
-//! The sizes 0, 1, 2 and so on are searched in order, and so are the subproblems of a size (the whole size, or
-//! each of its fences). The first subproblem with a chain ends the search. A size without one yields a section,
-//! which has a log (an LRAT proof) for each subproblem that was tried, refuted or open. The theorem is that of `search`: its
-//! result is a valid certificate whose logs stay small. An open log keeps at least half of its additions live, and
-//! no log has much more than three quarters of them live, so that it is cheap to check.
+//! The sizes 0, 1, 2 and so on are searched in order, and so are the subproblems of a size (the whole size, or each
+//! of its fences). The first subproblem with a chain ends the search. A size without one yields a section, which has
+//! a log (an LRAT proof) for each subproblem that was tried, refuted or open. The theorem is that of `search`: its
+//! result is a valid certificate whose logs stay small. An open log keeps at least half of its additions live, and no
+//! log has much more than three quarters of them live, so that it is cheap to check.
 //!
 //! Many chains are known before their size comes: short ones of up to four inputs by enumeration, all others by
 //! walks over small nets. Then the formula of their size isn't solved.

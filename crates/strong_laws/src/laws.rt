@@ -35,8 +35,8 @@ pub fn further_clauses_ask_nothing()
         Satisfies v (strong_fence_formula w basis r fence) → Satisfies v (fence_formula w basis r fence) }
 {}
 
-/// The formula of SSV, strengthened: if it is satisfiable, a chain of r steps implements the tables; if r is the minimum
-/// size of such a chain, it is satisfiable.
+/// The formula of SSV, strengthened: if it is satisfiable, a chain of r steps implements the tables; if r is the
+/// minimum size of such a chain, it is satisfiable.
 pub fn strong_asks_for_a_least_chain()
     ensures formula { (w : Words) (basis r : ℕ) → IsFormula (strong_formula w basis r) }
     ensures sound { (w : Words) (basis r : ℕ) → IsSatisfiable (strong_formula w basis r) →

@@ -118,11 +118,16 @@ impl<'a, T: Tell> SystemFiles<'a, T> {
         })
     }
 
-    /// Creates the file of a draft, with the mode of the file whose place it takes, if there is one.
+    /// Creates the file of a draft, with the mode of the file whose place it takes, if there is one. Where that mode can't be
+    /// set, no file is left.
     fn create_part(&self, part: &str, mode: Option<Permissions>) -> io::Result<File> {
         let file = File::create_new(self.rt, part)?;
-        if let Some(mode) = mode {
-            file.set_permissions(mode)?;
+        let Some(mode) = mode else {
+            return Ok(file);
+        };
+        if let Err(error) = file.set_permissions(mode) {
+            let _ = fs::remove_file(self.rt, part);
+            return Err(error);
         }
         Ok(file)
     }
