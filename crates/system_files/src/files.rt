@@ -118,8 +118,8 @@ impl<'a, T: Tell> SystemFiles<'a, T> {
         })
     }
 
-    /// Creates the file of a draft, with the mode of the file whose place it takes, if there is one. Where that mode can't be
-    /// set, no file is left.
+    /// Creates the file of a draft, with the mode of the file whose place it takes, if there is one. Where that mode
+    /// can't be set, no file is left.
     fn create_part(&self, part: &str, mode: Option<Permissions>) -> io::Result<File> {
         let file = File::create_new(self.rt, part)?;
         let Some(mode) = mode else {
