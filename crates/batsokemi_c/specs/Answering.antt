@@ -1,5 +1,5 @@
 -- What a caller of the library can rely on, in terms of the texts and the status that a call gives.
-use Rattle.std.specs.Prelude.{◌≡◌, ℕ, List, [], Option, Some, None, All}
+use Rattle.std.specs.Prelude.{◌≡◌, ℕ, ◌⊎◌, List, [], Option, Some, None, All}
 use Rattle.std.specs.Str.{IsUtf8}
 use Rattle.text_core.specs.Items.{items_of}
 use Rattle.command_line.specs.declared.command.Command.{Command}
@@ -8,7 +8,7 @@ use Rattle.command_line.specs.CommandLine.{AsksFor}
 use Rattle.frame_core.specs.declared.status.Status.{Status}
 use Rattle.frame_core.specs.declared.status.Status.TheVariants.{Usage}
 use Rattle.frame_core.specs.Statuses.{number_of}
-use Rattle.frame_core.specs.Reported.{Reply, Refusal, Field, error_line, usage}
+use Rattle.frame_core.specs.Reported.{Reply, Refusal, Field, error_line, usage, memory}
 use Rattle.frame_core.specs.Task.{Task}
 use Rattle.frame_core.specs.Run.{Run, HasInput}
 use Rattle.frame_core.specs.Promise.{AllSteady}
@@ -71,3 +71,7 @@ pub record AreErrorLine (output notes : List ℕ) : Type 0 where
   pub fields : List Field
   pub output_is : output ≡ []
   pub notes_are : notes ≡ error_line fields
+
+-- The notes are the error line of memory; or nothing was written at all.
+abbrev pub TellsMemory : List ℕ → List ℕ → Type 0
+TellsMemory output notes = (notes ≡ error_line memory) ⊎ ((output ≡ []) × (notes ≡ []))

@@ -5,8 +5,8 @@ use Rattle.text_core.specs.Items.{items_of}
 use Rattle.command_line.specs.declared.command.Command.{Command}
 use Rattle.command_line.specs.CommandLine.{command_of, AsksFor}
 use Rattle.frame_core.specs.declared.status.Status.{Status}
-use Rattle.frame_core.specs.declared.status.Status.TheVariants.{Usage, ReadFault, WriteFault}
-use Rattle.frame_core.specs.Reported.{too_long_refusal}
+use Rattle.frame_core.specs.declared.status.Status.TheVariants.{Usage, ReadFault, WriteFault, Memory}
+use Rattle.frame_core.specs.Reported.{error_line, memory, too_long_refusal}
 use Rattle.frame_core.specs.Task.{IsBeyond, IsAnswerable}
 use Rattle.frame_core.specs.Run.{Run}
 use Rattle.frame_core.specs.Promise.{IsSteady, CommandPromise}
@@ -16,9 +16,9 @@ use Rattle.chain_app.specs.RunPromise.{RunPromise}
 use Rattle.chain_app.specs.KeepsPromises.{KeepsPromises}
 use Rattle.batsokemi_c.specs.Called.{AreWords, memory_run, HasRun, IsAnswered}
 use Rattle.batsokemi_c.specs.Answering.{HasSteadyRun, Asks, AnswersWith, AreRefusal, AreErrorLine, usage_refusal}
-use Rattle.batsokemi_c.specs.CalledLaws.{IsErrorStatus, ReadsSteadily, WritesSteadily, TellsErrors, task_reads, task_writes}
-use Rattle.batsokemi_c.specs.CalledLaws.{answered_steady, text_written, nothing_written, asked_words, replied, refused_with}
-use Rattle.batsokemi_c.specs.CalledLaws.{line_of_error, line_of_promise}
+use Rattle.batsokemi_c.specs.CalledLaws.{IsErrorStatus, ReadsSteadily, WritesSteadily, TellsErrors, TellsOfMemory}
+use Rattle.batsokemi_c.specs.CalledLaws.{answered_steady, asked_words, replied, refused_with}
+use Rattle.batsokemi_c.specs.CalledLaws.{task_reads, task_writes, task_memory, line_of_error, line_of_promise}
 
 -- ---- what the program's promises say of faults and of error lines
 
@@ -52,6 +52,13 @@ line_ended words i left o n s (Ran command outcome) ran every error =
 
 pub promises_tell : TellsErrors KeepsPromises
 promises_tell words i left o n s keeps = line_ended words i left o n s keeps.ending.0 keeps.ending.1 keeps.every
+
+memory_ended : (words : List (List ℕ)) (i left o n : List ℕ) (s : Status) (e : Ending) → IsEnding (memory_run words i left o 0 n 0 s) e → RunPromise (memory_run words i left o 0 n 0 s) → s ≡ Memory → n ≡ error_line memory
+memory_ended words i left o n s Idle idle every is = (let apart : Usage ≡ Memory = sym idle.status_is ∙ is in absurd cc)
+memory_ended words i left o n s (Ran command outcome) ran every is = task_memory (task_of command) words i left o n s (every.keeps command ran.0) is
+
+pub promises_tell_memory : TellsOfMemory KeepsPromises
+promises_tell_memory words i left o n s keeps = memory_ended words i left o n s keeps.ending.0 keeps.ending.1 keeps.every
 
 -- ---- answers
 

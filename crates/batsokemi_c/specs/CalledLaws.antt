@@ -9,12 +9,12 @@ use Rattle.frame_core.specs.declared.status.Status.{Status}
 use Rattle.frame_core.specs.declared.status.Status.TheVariants.{Done, Usage, Malformed, Limit, Undecided, ReadFault, WriteFault, Memory, Refused}
 use Rattle.frame_core.specs.Statuses.{number_of}
 use Rattle.frame_core.specs.Outside.{PortState, Writes}
-use Rattle.frame_core.specs.Reported.{Refusal, error_line}
+use Rattle.frame_core.specs.Reported.{Refusal, error_line, memory}
 use Rattle.frame_core.specs.Task.{Task}
 use Rattle.frame_core.specs.Run.{Run, Reports}
-use Rattle.frame_core.specs.Promise.{IsSteady, AllSteady, ReportsError, Replies, Faults, OfInput, CommandPromise}
+use Rattle.frame_core.specs.Promise.{IsSteady, AllSteady, ReportsError, Replies, Faults, OfInput, ReplyOutOfMemory, CommandPromise}
 use Rattle.batsokemi_c.specs.Called.{AreWords, holding, memory_run, HasLackedRoom, IsCalled, IsAnsweredBy}
-use Rattle.batsokemi_c.specs.Answering.{HasSteadyRunBy, report_of, AnswersWith, AreRefusal, AreErrorLine}
+use Rattle.batsokemi_c.specs.Answering.{HasSteadyRunBy, report_of, AnswersWith, AreRefusal, AreErrorLine, TellsMemory}
 
 -- ---- statuses
 
@@ -39,6 +39,17 @@ is_six ReadFault e = absurd cc
 is_six WriteFault e = refl
 is_six Memory e = absurd cc
 is_six Refused e = absurd cc
+
+is_seven : (s : Status) → number_of s ≡ 7 → s ≡ Memory
+is_seven Done e = absurd cc
+is_seven Usage e = absurd cc
+is_seven Malformed e = absurd cc
+is_seven Limit e = absurd cc
+is_seven Undecided e = absurd cc
+is_seven ReadFault e = absurd cc
+is_seven WriteFault e = absurd cc
+is_seven Memory e = refl
+is_seven Refused e = absurd cc
 
 -- a status with an error line
 abbrev pub IsErrorStatus : Status → Type 0
@@ -67,6 +78,10 @@ WritesSteadily P = (r : Run) → P r → IsSteady r.out r.out' → IsSteady r.no
 -- A run in memory with the status of an error writes its line.
 abbrev pub TellsErrors : (Run → Type 0) → Type 0
 TellsErrors P = (words : List (List ℕ)) (i left o n : List ℕ) (s : Status) → P (memory_run words i left o 0 n 0 s) → IsErrorStatus s → AreErrorLine o n
+
+-- A run in memory for which memory ran out writes that line.
+abbrev pub TellsOfMemory : (Run → Type 0) → Type 0
+TellsOfMemory P = (words : List (List ℕ)) (i left o n : List ℕ) (s : Status) → P (memory_run words i left o 0 n 0 s) → s ≡ Memory → n ≡ error_line memory
 
 -- a command's promise says so
 pub task_reads : (task : Task) → ReadsSteadily (CommandPromise task)
@@ -201,3 +216,20 @@ pub line_stands : (P : Run → Type 0) → TellsErrors P → (c i o o' n n' : Li
 line_stands P tells c i o o' n n' s ol nl a low high =
     called_line P tells c i a.out a.note a.ended a.called
     (is_error a.ended (omega (arith, low, a.status_is)) (omega (arith, high, a.status_is)))
+
+-- ---- the line of memory
+
+pub task_memory : (task : Task) → TellsOfMemory (CommandPromise task)
+task_memory task words i left o n s promise is = ⊎_elim
+    (λ reports. text_written (error_line memory) n reports.on_note)
+    (λ of. text_written (error_line memory) n of.holds.on_note)
+    (promise.memory_only is)
+
+called_memory : (P : Run → Type 0) → TellsOfMemory P → (c i o n : List ℕ) (s : Status) → IsCalled P c i o n s → s ≡ Memory → TellsMemory o n
+called_memory P tells c i o n s (inl has) is = inl (tells has.words i has.left o n s has.keeps is)
+called_memory P tells c i o n s (inr (inl lacked)) is = (let apart : WriteFault ≡ Memory = sym lacked.status_is ∙ is in absurd cc)
+called_memory P tells c i o n s (inr (inr none)) is = inr (none.no_output, none.no_notes)
+
+-- With the status 7 the notes are the error line of memory, or nothing was written.
+pub memory_stands : (P : Run → Type 0) → TellsOfMemory P → (c i o o' n n' : List ℕ) (s ol nl : ℕ) (a : IsAnsweredBy P c i o o' n n' s ol nl) → s ≡ 7 → TellsMemory a.out a.note
+memory_stands P tells c i o o' n n' s ol nl a is = called_memory P tells c i a.out a.note a.ended a.called (is_seven a.ended (sym a.status_is ∙ is))

@@ -9,7 +9,7 @@ use Rattle.command_line.specs.declared.command.Command.TheVariants.{Agree, Reche
 use Rattle.command_line.specs.CommandLine.{command_of, AsksFor}
 use Rattle.frame_core.specs.declared.status.Status.{Status}
 use Rattle.frame_core.specs.declared.status.Status.TheVariants.{Done, Usage, Malformed, Limit, Undecided, ReadFault, WriteFault, Memory, Refused}
-use Rattle.frame_core.specs.Reported.{Refusal, memory_refusal, too_long_refusal}
+use Rattle.frame_core.specs.Reported.{Refusal, error_line, memory, memory_refusal, too_long_refusal}
 use Rattle.frame_core.specs.Task.{Task, IsAnswerable, IsAnswerStatus, IsRefusalStatus, IsTask}
 use Rattle.frame_core.specs.Run.{Run, HasInput}
 use Rattle.frame_core.specs.Promise.{AllSteady, ReportsError, Replies, CommandPromise}
@@ -18,9 +18,9 @@ use Rattle.cmd_equiv.specs.WithLaws.{with_is_task}
 use Rattle.chain_app.specs.Pair.{KeepsPair, first_too_long, no_comparison}
 use Rattle.batsokemi_c.specs.Called.{memory_run, HasRun, IsPairAnswered}
 use Rattle.batsokemi_c.specs.Answering.{HasSteadyPair, AsksToCompare, AnswersWith, AreRefusal, AreErrorLine}
-use Rattle.batsokemi_c.specs.CalledLaws.{IsErrorStatus, ReadsSteadily, WritesSteadily, TellsErrors, task_reads, task_writes}
+use Rattle.batsokemi_c.specs.CalledLaws.{IsErrorStatus, ReadsSteadily, WritesSteadily, TellsErrors, TellsOfMemory}
 use Rattle.batsokemi_c.specs.CalledLaws.{all_steady, answered_steady, asked_words, replied, refused_with}
-use Rattle.batsokemi_c.specs.CalledLaws.{line_of_error, line_of_promise}
+use Rattle.batsokemi_c.specs.CalledLaws.{task_reads, task_writes, task_memory, line_of_error, line_of_promise}
 use Rattle.batsokemi_c.specs.AnsweringLaws.{items_ask}
 
 -- ---- how a comparison goes: it runs, its first text is too long, or the words ask for none
@@ -82,11 +82,17 @@ unfolding first_too_long
 refused_status r (inl long) = inl long.status_is
 refused_status r (inr none) = inr none.status_is
 
-no_fault : (s : Status) → (s ≡ Limit) ⊎ (s ≡ Usage) → (s ≡ ReadFault) ⊎ (s ≡ WriteFault) → ⊥
+-- a status that no refusal before a comparison has
+abbrev IsFaultStatus : Status → Type 0
+IsFaultStatus s = (s ≡ ReadFault) ⊎ ((s ≡ WriteFault) ⊎ (s ≡ Memory))
+
+no_fault : (s : Status) → (s ≡ Limit) ⊎ (s ≡ Usage) → IsFaultStatus s → ⊥
 no_fault s (inl x) (inl is) = (let e : Limit ≡ ReadFault = sym x ∙ is in absurd cc)
-no_fault s (inl x) (inr is) = (let e : Limit ≡ WriteFault = sym x ∙ is in absurd cc)
+no_fault s (inl x) (inr (inl is)) = (let e : Limit ≡ WriteFault = sym x ∙ is in absurd cc)
+no_fault s (inl x) (inr (inr is)) = (let e : Limit ≡ Memory = sym x ∙ is in absurd cc)
 no_fault s (inr x) (inl is) = (let e : Usage ≡ ReadFault = sym x ∙ is in absurd cc)
-no_fault s (inr x) (inr is) = (let e : Usage ≡ WriteFault = sym x ∙ is in absurd cc)
+no_fault s (inr x) (inr (inl is)) = (let e : Usage ≡ WriteFault = sym x ∙ is in absurd cc)
+no_fault s (inr x) (inr (inr is)) = (let e : Usage ≡ Memory = sym x ∙ is in absurd cc)
 
 pub pair_reads : (first : List ℕ) → ReadsSteadily (KeepsPair first)
 pair_reads first r keeps steady is = elim (goes first r keeps) [
@@ -97,7 +103,7 @@ pair_reads first r keeps steady is = elim (goes first r keeps) [
 pub pair_writes : (first : List ℕ) → WritesSteadily (KeepsPair first)
 pair_writes first r keeps out note is = elim (goes first r keeps) [
   | inl runs ↦ task_writes (with_task runs.0 first) r runs.1 out note is
-  | inr refused ↦ no_fault r.status (refused_status r refused) (inr is)
+  | inr refused ↦ no_fault r.status (refused_status r refused) (inr (inl is))
 ]
 
 line_gone : (first : List ℕ) (words : List (List ℕ)) (i left o n : List ℕ) (s : Status) → Goes first (memory_run words i left o 0 n 0 s) → IsErrorStatus s → AreErrorLine o n
@@ -111,6 +117,14 @@ line_gone first words i left o n s (inr (inr none)) error = line_of_error words 
 
 pub pair_tells : (first : List ℕ) → TellsErrors (KeepsPair first)
 pair_tells first words i left o n s keeps = line_gone first words i left o n s (goes first (memory_run words i left o 0 n 0 s) keeps)
+
+memory_gone : (first : List ℕ) (words : List (List ℕ)) (i left o n : List ℕ) (s : Status) → Goes first (memory_run words i left o 0 n 0 s) → s ≡ Memory → n ≡ error_line memory
+memory_gone first words i left o n s (inl runs) is = task_memory (with_task runs.0 first) words i left o n s runs.1 is
+memory_gone first words i left o n s (inr refused) is =
+    absurd (no_fault s (refused_status (memory_run words i left o 0 n 0 s) refused) (inr (inr is)))
+
+pub pair_tells_memory : (first : List ℕ) → TellsOfMemory (KeepsPair first)
+pair_tells_memory first words i left o n s keeps = memory_gone first words i left o n s (goes first (memory_run words i left o 0 n 0 s) keeps)
 
 -- ---- answers
 

@@ -13,7 +13,7 @@ ghost use Rattle.chain_app.specs.KeepsPromises.{KeepsPromises};
 ghost use Rattle.chain_app.specs.Pair.{KeepsPair, first_too_long, no_comparison};
 ghost use Rattle.batsokemi_c.specs.Called.{HasLackedRoom, IsAnswered, IsPairAnswered};
 ghost use Rattle.batsokemi_c.specs.Answering.{HasSteadyRun, HasSteadyPair, Asks, AsksToCompare};
-ghost use Rattle.batsokemi_c.specs.Answering.{AnswersWith, AreRefusal, AreErrorLine, usage_refusal};
+ghost use Rattle.batsokemi_c.specs.Answering.{AnswersWith, AreRefusal, AreErrorLine, TellsMemory, usage_refusal};
 
 /// No call ends with status 5: reading the caller's bytes can't fail.
 pub fn calls_never_fail_to_read()
@@ -60,6 +60,12 @@ pub fn calls_refuse()
 pub fn error_lines_stand()
     ensures { (c i o o' n n' : List ℕ) (s ol nl : ℕ) (a : IsAnswered c i o o' n n' s ol nl) →
         0 < s → s < 4 → AreErrorLine a.out a.note }
+{}
+
+/// With status 7 the notes are the error line of memory; or, where not even the words had room, nothing was written.
+pub fn memory_lines_stand()
+    ensures { (c i o o' n n' : List ℕ) (s ol nl : ℕ) (a : IsAnswered c i o o' n n' s ol nl) →
+        s ≡ 7 → TellsMemory a.out a.note }
 {}
 
 // ---- two texts
@@ -109,4 +115,10 @@ pub fn pairs_refuse()
 pub fn pair_error_lines_stand()
     ensures { (c f i o o' n n' : List ℕ) (s ol nl : ℕ) (a : IsPairAnswered c f i o o' n n' s ol nl) →
         0 < s → s < 4 → AreErrorLine a.out a.note }
+{}
+
+/// With status 7 the notes of a comparison are the error line of memory; or nothing was written.
+pub fn pair_memory_lines_stand()
+    ensures { (c f i o o' n n' : List ℕ) (s ol nl : ℕ) (a : IsPairAnswered c f i o o' n n' s ol nl) →
+        s ≡ 7 → TellsMemory a.out a.note }
 {}
