@@ -12,7 +12,7 @@ use Rattle.frame_core.specs.Outside.{PortState, Writes}
 use Rattle.frame_core.specs.Reported.{Refusal, error_line, memory}
 use Rattle.frame_core.specs.Task.{Task}
 use Rattle.frame_core.specs.Run.{Run, Reports}
-use Rattle.frame_core.specs.Promise.{IsSteady, AllSteady, ReportsError, Replies, Faults, OfInput, ReplyOutOfMemory, CommandPromise}
+use Rattle.frame_core.specs.Promise.{IsSteady, AllSteady, ReportsError, Replies, Faults, OfInput, CommandPromise}
 use Rattle.batsokemi_c.specs.Called.{AreWords, holding, memory_run, HasLackedRoom, IsCalled, IsAnsweredBy}
 use Rattle.batsokemi_c.specs.Answering.{HasSteadyRunBy, report_of, AnswersWith, AreRefusal, AreErrorLine, TellsMemory}
 
