@@ -12,13 +12,14 @@ use Rattle.cert_file.specs.declared.claim.Claim.{Claim}
 use Rattle.depth_theory.specs.Verdicts.{most_of_certificate}
 use Rattle.frame_core.specs.declared.replies.Stop.{Stop}
 use Rattle.frame_core.specs.declared.replies.Stop.TheVariants.{NoMemory, NoAnswer}
+use Rattle.frame_core.specs.declared.status.Status.TheVariants.{Done}
 use Rattle.frame_core.specs.Reported.{Reply, Refusal}
 use Rattle.frame_core.specs.Task.{HasReply, Refuses}
 use Rattle.frame_core.specs.Views.{Judges}
 use Rattle.cmd_recheck.specs.RecheckReport.{recheck_task}
 use Rattle.cmd_formula.specs.Claimed.{IsClaimed}
 use Rattle.cmd_formula.specs.FormulaLaws.{formula_written, log_written}
-use Rattle.cmd_formula.specs.FormulaReport.{NotValid, NoSuchPart, formula_refusal, text_reply, task_of, HasText}
+use Rattle.cmd_formula.specs.FormulaReport.{NotValid, NoSuchPart, formula_refusal, task_of, HasText}
 use Rattle.cmd_formula.specs.PartLaws.{claimed_few, claimed_basis, claimed_none, claimed_no_formula}
 use Rattle.cmd_formula.specs.Parts.{Part, count_of, size_in, formula_at}
 
@@ -55,12 +56,12 @@ no_formula bytes t text size part r refusal within is at none same = record {
 }
 
 pub replied : (text : Part → List ℕ) (size : Option ℕ) (part : ℕ) (bytes written : List ℕ) (reply : Reply) → HasText text size part bytes written →
-    reply ≡ text_reply written
+    reply ≡ record { text = written; report = None; status = Done }
     → HasReply (task_of text size part) bytes reply
 replied text size part bytes written reply has same = record {
   answer = has.answer;
   has = has.has;
-  is = same ∙ ap text_reply has.is;
+  is = same ∙ ap (λ (t : List ℕ). let r : Reply = record { text = t; report = None; status = Done } in r) has.is;
 }
 
 pub ruleset finding = (common_steps, claimed, as_recheck, no_size, no_formula, replied, claimed_few, claimed_basis, formula_written, log_written)

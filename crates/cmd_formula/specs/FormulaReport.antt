@@ -1,5 +1,5 @@
 -- The tasks of `formula`: the formula of a part in DIMACS, its log as plain LRAT, and the refusals.
-use Rattle.std.specs.Prelude.{◌≡◌, ℕ, ◌≤◌, List, [], length, Option, Some, None, codes}
+use Rattle.std.specs.Prelude.{◌≡◌, ℕ, ◌≤◌, List, length, Option, Some, None, codes}
 use Rattle.cert_theory.specs.declared.data.CertificateError.{CertificateError}
 use Rattle.cert_theory.specs.Certificate.{Certificate}
 use Rattle.cert_theory.specs.Spelling.{IsCertificateText}
@@ -42,19 +42,8 @@ abbrev pub formula_refusal : FormulaFault → Refusal
 formula_refusal (NotValid error) = recheck_refusal error
 formula_refusal NoSuchPart = record { status = Malformed; named = no_such_part }
 
--- The report: one line where the text is empty, as a log is that the section doesn't have, or none.
-unfoldable pub no_log_line : List ℕ
-no_log_line = codes "note: this part has no log\n"
-
-abbrev pub report_of : List ℕ → Option (List ℕ)
-report_of [] = Some no_log_line
-report_of text = None
-
-abbrev pub text_reply : List ℕ → Reply
-text_reply text = record { text = text; report = report_of text; status = Done }
-
 abbrev pub part_reply : (Part → List ℕ) → Part → Reply
-part_reply text p = text_reply (text p)
+part_reply text p = record { text = text p; report = None; status = Done }
 
 -- the task that writes a text of a part
 abbrev pub task_of : (Part → List ℕ) → Option ℕ → ℕ → Task

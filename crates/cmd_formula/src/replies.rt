@@ -1,15 +1,14 @@
 //! The two commands: the formula of a part, and its log.
-ghost use Rattle.std.specs.Prelude.{◌≡◌, ℕ, ◌≤◌, List, Some, Err, IfOk, IfErr, length};
-ghost use Rattle.std.specs.Option.{option_map};
+ghost use Rattle.std.specs.Prelude.{◌≡◌, ℕ, ◌≤◌, List, None, Err, IfOk, IfErr, length};
+ghost use Rattle.frame_core.specs.declared.status.Status.TheVariants.{Done};
 ghost use Rattle.chain_theory.specs.Limits.{most_steps};
 ghost use Rattle.depth_theory.specs.Verdicts.{most_of_certificate};
-ghost use Rattle.frame_core.specs.Views.{Judges, report_text, reply_value, refusal_value};
+ghost use Rattle.frame_core.specs.Views.{Judges, reply_value, refusal_value};
 ghost use Rattle.cmd_formula.specs.Claimed.{IsFound};
 ghost use Rattle.cmd_formula.specs.Dimacs.{dimacs_text};
 ghost use Rattle.cmd_formula.specs.Parts.{Part};
 ghost use Rattle.cmd_formula.specs.FormulaReport.{formula_part, log_part, HasText, task_of, formula_task, log_task};
-ghost use Rattle.cmd_formula.specs.FormulaReport.{formula_refusal, NoSuchPart, no_log_line, text_reply};
-ghost use Rattle.cmd_formula.specs.FormulaReport.{report_of as report_of_text};
+ghost use Rattle.cmd_formula.specs.FormulaReport.{formula_refusal, NoSuchPart};
 
 use crate::claims::claim_in;
 use crate::dimacs::push_dimacs;
@@ -17,7 +16,7 @@ use crate::formulas::{formula_at, size_in};
 use crate::logs::plain_text;
 use crate::parts::PartAsked;
 use cnf_core::Cnf;
-use frame_core::{ErrorLine, Refusal, Replier, Reply, Report, Status, Stop};
+use frame_core::{ErrorLine, Refusal, Replier, Reply, Status, Stop};
 use std::alloc::{AllocError, Global};
 
 /// The most bytes of a certificate that are read: 256 MiB, as by `recheck`.
@@ -109,36 +108,15 @@ fn log_text(alloc: Global, bytes: &[u8], asked: PartAsked) -> Result<Vec<u8>, St
     }
 }
 
-/// The report that a part has no log.
-#[tactic(auto, unfolding(crate::specs::FormulaReport::no_log_line))]
-fn no_log(alloc: Global) -> Result<Option<Report>, AllocError>
-    ensures { IfOk result (λ report. option_map report_text report ≡ Some no_log_line) }
-{
-    let mut line = Vec::new(alloc);
-    line.extend_from_slice(b"note: this part has no log\n")?;
-    Ok(Some(Report::whole(line)))
-}
-
-/// The report of a text: a line, if it is empty.
-fn report_of(alloc: Global, text: &[u8]) -> Result<Option<Report>, AllocError>
-    ensures { IfOk result (λ report. option_map report_text report ≡ report_of_text text.now) }
-{
-    let Some((_, _)) = text.split_first() else {
-        return no_log(alloc);
-    };
-    Ok(None)
-}
-
 /// A text as a reply.
-fn reply_of(alloc: Global, text: Vec<u8>) -> Result<Reply, AllocError>
-    ensures { IfOk result (λ reply. reply_value reply ≡ text_reply text.items) }
+fn reply_of(text: Vec<u8>) -> Reply
+    ensures { reply_value result ≡ record { text = text.items; report = None; status = Done } }
 {
-    let report = report_of(alloc, &text)?;
-    Ok(Reply {
+    Reply {
         text,
-        report,
+        report: None,
         status: Status::Done,
-    })
+    }
 }
 
 /// The command that writes the formula of a part of a certificate in DIMACS.
@@ -157,10 +135,7 @@ impl Replier for WriteFormula {
     #[tactic(auto, using(crate::proofs::Finding::finding))]
     fn reply(&self, alloc: Global, bytes: &[u8]) -> Result<Reply, Stop> {
         match formula_text(alloc, bytes, self.0) {
-            Ok(text) => match reply_of(alloc, text) {
-                Ok(reply) => Ok(reply),
-                Err(AllocError) => Err(Stop::NoMemory),
-            },
+            Ok(text) => Ok(reply_of(text)),
             Err(stop) => Err(stop),
         }
     }
@@ -182,10 +157,7 @@ impl Replier for WriteLog {
     #[tactic(auto, using(crate::proofs::Finding::finding))]
     fn reply(&self, alloc: Global, bytes: &[u8]) -> Result<Reply, Stop> {
         match log_text(alloc, bytes, self.0) {
-            Ok(text) => match reply_of(alloc, text) {
-                Ok(reply) => Ok(reply),
-                Err(AllocError) => Err(Stop::NoMemory),
-            },
+            Ok(text) => Ok(reply_of(text)),
             Err(stop) => Err(stop),
         }
     }
