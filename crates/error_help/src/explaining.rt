@@ -5,6 +5,7 @@ use crate::expected::{
 };
 use crate::finding::line_of;
 use crate::interfaces::push_difference;
+use crate::looks::{begins_aiger, begins_counted, remark_on};
 use crate::netlists::{Role, line_of_name};
 use crate::tokens::{Separators, next_token};
 use help_text::{Part, push_parts, push_quoted};
@@ -189,25 +190,35 @@ fn push_too_long(text: &mut Vec<u8>, subject: Subject, input: Input) -> Result<(
     )
 }
 
-/// Whether an input is known to begin with a word and a digit.
-fn begins(input: Input, word: &[u8]) -> bool {
-    let Some(bytes) = input.bytes else {
+/// Whether the first line of a text in AIGER has but its word and numbers.
+fn is_header(text: &[u8]) -> bool {
+    let Some(found) = line_of(text, 1) else {
         return false;
     };
-    let Some(rest) = after(word, bytes) else {
-        return false;
-    };
-    match rest.first() {
-        Some(byte) => byte.is_ascii_digit(),
-        None => false,
+    let (_, numbers) = next_token(Separators::Blanks, found.bytes);
+    for byte in numbers {
+        if !byte.is_ascii_digit() && *byte != b' ' {
+            return false;
+        }
     }
+    true
 }
 
-/// The format of a netlist that is in AIGER by its first word, and else what the command reads.
-fn subject_in(subject: Subject, input: Input) -> Subject {
+/// Whether a fault is one of the first line, although that is one of AIGER: then the text was read as something else.
+fn is_of_header(fault: Fault, text: &[u8]) -> bool {
+    let (line, _) = number_of(fault.fields);
+    fault.name == b"Syntax".as_slice() && line == 1 && is_header(text)
+}
+
+/// The format of a netlist that is in AIGER by its first word, unless it was read as another, and else what the
+/// command reads.
+fn subject_in(subject: Subject, input: Input, fault: Fault) -> Subject {
+    let Some(text) = input.bytes else {
+        return subject;
+    };
     match subject {
         Subject::Blif | Subject::Bench => {
-            if begins(input, b"aag ") || begins(input, b"aig ") {
+            if begins_aiger(text) && !is_of_header(fault, text) {
                 Subject::Aiger
             } else {
                 subject
@@ -217,15 +228,38 @@ fn subject_in(subject: Subject, input: Input) -> Subject {
     }
 }
 
+/// Whether an input is known to be in the binary form of AIGER.
+fn is_binary(input: Input) -> bool {
+    match input.bytes {
+        Some(text) => begins_counted(b"aig ", text),
+        None => false,
+    }
+}
+
 /// An input whose lines can be shown: those of a binary text aren't the lines that its faults name.
 fn shown_input(input: Input) -> Input {
-    if begins(input, b"aig ") {
+    if is_binary(input) {
         Input {
             name: input.name,
             bytes: None,
         }
     } else {
         input
+    }
+}
+
+/// Appends a remark on a text in which a line has a fault.
+fn push_remark(
+    text: &mut Vec<u8>,
+    subject: Subject,
+    input: Input,
+    place: Place,
+) -> Result<(), AllocError> {
+    match (input.bytes, place) {
+        (Some(bytes), Place::Line | Place::At(_)) => {
+            text.extend_from_slice(remark_on(subject, bytes))
+        }
+        _ => Ok(()),
     }
 }
 
@@ -248,6 +282,7 @@ fn push_fault(
     match entry_of(subject, fault.name) {
         Some(entry) => {
             push_entry(text, subject, input, entry, fault.fields)?;
+            push_remark(text, subject, given, entry.place)?;
             Ok(true)
         }
         None => Ok(false),
@@ -302,7 +337,12 @@ fn push_led(
     if fault.name == b"DifferentInterface".as_slice() && push_interfaces(text, inputs)? {
         return Ok(true);
     }
-    push_fault(text, subject_in(subject, inputs.first), inputs.first, fault)
+    push_fault(
+        text,
+        subject_in(subject, inputs.first, fault),
+        inputs.first,
+        fault,
+    )
 }
 
 /// Appends the line for people to an error line: the file, the line, what stands there, and what was expected.

@@ -18,6 +18,7 @@ mod expected;
 mod explaining;
 mod finding;
 mod interfaces;
+mod looks;
 mod net_faults;
 mod netlists;
 mod tokens;

@@ -1,11 +1,13 @@
 //! The program `front`: `batsokemi` with files that are named, and help for people. It collects the arguments, wraps
 //! the standard streams in ports that remember what went through them and tell of the progress, hands over the files
-//! of the system, and calls `front_app::serve`.
+//! of the system, and calls `front_app::serve`. A standard stream that is closed stays so: no file takes its place.
 #![tactic(auto)]
 
 mod rereading;
+mod standing;
 
 use crate::rereading::Rereading;
+use crate::standing::Standing;
 use front_app::{Remembering, Retelling, Status, serve};
 use port_io::{InputPort, OutputPort};
 use progress::{WatchedSink, WatchedSource};
@@ -13,6 +15,10 @@ use std::io::IsTerminal;
 use std::process::ExitCode;
 use std::{env, io};
 use system_files::{SystemFiles, Terminal};
+
+/// What people are told of a word that isn't UTF-8.
+const NOT_UTF8: &str =
+    "words are read in UTF-8 alone; a file of another name can be given as standard input, by <";
 
 /// The arguments after the program's name. An argument that isn't UTF-8 is a usage error.
 fn words_of(rt: &HostRuntime) -> Result<Vec<String>, Status> {
@@ -28,11 +34,12 @@ fn words_of(rt: &HostRuntime) -> Result<Vec<String>, Status> {
 fn report_no_words(rt: &HostRuntime, status: Status) {
     let _ = match status {
         Status::Memory => eprintln!(rt; "error: Memory"),
-        _ => eprintln!(rt; "error: Usage"),
+        _ => eprintln!(rt; "error: Usage\nbatsokemi: {NOT_UTF8}"),
     };
 }
 
 fn main(rt: HostRuntime) -> ExitCode {
+    let standing = Standing::new(&rt);
     let words = match words_of(&rt) {
         Ok(words) => words,
         Err(status) => {
@@ -63,5 +70,6 @@ fn main(rt: HostRuntime) -> ExitCode {
         &terminal,
     );
     terminal.wipe();
+    drop(standing);
     ExitCode::from(status.number())
 }

@@ -40,4 +40,11 @@ impl<'a> Rereads for Rereading<'a> {
             Err(_) => None,
         }
     }
+
+    fn is_read_once(&self, name: &str) -> bool {
+        match fs::metadata(self.rt, name) {
+            Ok(found) => !found.is_file() && !found.is_dir(),
+            Err(_) => false,
+        }
+    }
 }

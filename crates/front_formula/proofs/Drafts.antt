@@ -12,6 +12,7 @@ use Rattle.file_io.specs.Settling.{Settles}
 use Rattle.file_io.specs.Served.{Pass, Does}
 use Rattle.file_io.specs.ServedLaws.{still}
 use Rattle.front_formula.specs.Accompanied.{IsAccompanied}
+use Rattle.front_formula.specs.LogEnds.{EndsLog}
 use Rattle.front_formula.specs.Logged.{IsAfter, IsSkipped, IsLogged}
 
 pub skipped : (ended : Status) (state : FilesState) (source out note : PortState) →
@@ -43,7 +44,7 @@ pub logged : (name : List ℕ) (answers logs : Does) (old created answered after
     (first ended status : Status) →
     IsUnchanged old created → Begun (old.holds name) draft.bytes → answers (created, answered) (source, middle) out (note, between) first →
     IsAfter first logs (answered, after_logs) (middle, source') (draft, draft') (between, later) ended →
-    Settles name ended draft'.bytes (after_logs, new) (later, note') status →
+    EndsLog name ended draft'.bytes (after_logs, new) (later, note') status →
     IsLogged (Some name) answers logs (old, new) (source, source') out (note, note') status
 logged name answers logs old created answered after_logs new source middle source' out draft draft' note between later note' first ended status unchanged empty answer log settles =
     inr (record {

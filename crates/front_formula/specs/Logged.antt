@@ -5,8 +5,8 @@ use Rattle.frame_core.specs.declared.status.Status.TheVariants as statuses
 use Rattle.frame_core.specs.Outside.{PortState}
 use Rattle.file_io.specs.Names.{Begun}
 use Rattle.file_io.specs.Files.{FilesState, Files, IsUnchanged}
-use Rattle.file_io.specs.Settling.{Settles}
 use Rattle.file_io.specs.Served.{Pass, Does, IsUncreated}
+use Rattle.front_formula.specs.LogEnds.{EndsLog}
 
 -- Nothing is done after work that ended with this status.
 pub record IsSkipped (ended : Status) (files : Files) (source out note : Pass) (status : Status) : Type 0 where
@@ -22,7 +22,7 @@ IsAfter statuses.Done does files source out note status = does files source out 
 IsAfter ended does files source out note status = IsSkipped ended files source out note status
 
 -- A draft for the log was created; then the answer was written to the output; then the log to the draft, which took the
--- name's place or went.
+-- name's place, even if the log is empty, or went.
 pub record AreWritten (name : List ℕ) (answers logs : Does) (files : Files) (source out note : Pass) (status : Status)
     : Type 0 where
   pub created : FilesState
@@ -38,7 +38,7 @@ pub record AreWritten (name : List ℕ) (answers logs : Does) (files : Files) (s
   pub empty : Begun (files.0.holds name) draft.0.bytes
   pub answer : answers (created, answered) (source.0, middle) out (note.0, between) first
   pub log : IsAfter first logs (answered, logged) (middle, source.1) draft (between, later) ended
-  pub settles : Settles name ended draft.1.bytes (logged, files.1) (later, note.1) status
+  pub settles : EndsLog name ended draft.1.bytes (logged, files.1) (later, note.1) status
 
 -- Without a name, there is no log.
 abbrev pub IsLogged : Option (List ℕ) → Does → Does → Files → Pass → Pass → Pass → Status → Type 0

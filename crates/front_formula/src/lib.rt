@@ -12,8 +12,9 @@
 //! What is proved: `IsServed` of `specs/FormulaRuns.antt`. The words of `formula` are no command line of the program.
 //! `-o FILE` and `--log FILE` hold the whole text or what they held before, with all that `perform` promises for
 //! `formula_task` and `log_task` over the bytes of the certificate; the file of the log is created before anything is
-//! read. Words that ask for no part are a usage error. The same holds of the files of `equiv`, with `miter_task` and
-//! `miter_log_task` over the bytes of the netlists, and what the program promises of a comparison.
+//! read, and written even if the log is empty (`specs/LogEnds`). Words that ask for no part are a usage error. The same
+//! holds of the files of `equiv`, with `miter_task` and `miter_log_task` over the bytes of the netlists, and what the
+//! program promises of a comparison.
 //!
 //! ```text
 //! let status = serve(alloc, &program, &words, &mut outside, &mut source, &mut out, &mut note);

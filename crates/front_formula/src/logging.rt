@@ -1,12 +1,14 @@
 //! Answers with a log that goes to a file of its own.
+ghost use Rattle.std.specs.Prelude.{◌≡◌, Some};
+ghost use Rattle.frame_core.specs.Outside.{port_state, Writes};
 ghost use Rattle.frame_core.specs.Run.{before_after};
 ghost use Rattle.file_io.specs.Files.{files_before_after};
-ghost use Rattle.std.specs.Prelude.{Some};
+ghost use Rattle.front_formula.specs.LogEnds.{EndsLog, IsTold, is_done as is_done_of};
 ghost use Rattle.front_formula.specs.Logged.{IsAfter, IsLogged};
 
-use file_io::{Call, Outside, Work, report_fault, settle};
+use file_io::{Call, Outside, Work, report_fault};
 use frame_core::Status;
-use port_io::{Sink, Source};
+use port_io::{Sink, Source, write_all};
 use std::alloc::Global;
 
 /// Does the second part of some work, if the first is done.
@@ -31,6 +33,66 @@ pub(crate) fn log_after<L: Work, W: Outside, S: Source, O: Sink, N: Sink>(
     match ended {
         Status::Done => logs.work(alloc, outside, source, out, note),
         other => other,
+    }
+}
+
+/// Whether work was done.
+fn is_done(status: Status) -> bool
+    ensures { result ≡ is_done_of status }
+{
+    match status {
+        Status::Done => true,
+        Status::Undecided | Status::Refused => false,
+        Status::Usage | Status::Malformed | Status::Limit => false,
+        Status::ReadFault | Status::WriteFault | Status::Memory => false,
+    }
+}
+
+/// Writes a note. If that fails, it is ignored: the status of the run is already decided.
+fn write_note<N: Sink>(note: &mut N, text: &[u8])
+    ensures { Writes (port_state N.written N.faults note.old) (port_state N.written N.faults note.new) text.now }
+{
+    let _ = write_all(note, text);
+}
+
+/// Writes a note if the log has no bytes.
+#[tactic(auto, unfolding(crate::specs::LogEnds::no_log_line), using(crate::proofs::LogEnds::telling))]
+fn tell_log<N: Sink>(note: &mut N, has_bytes: bool)
+    ensures { IsTold has_bytes (before_after N.written N.faults note.old note.new) }
+{
+    if has_bytes {
+        return;
+    }
+    write_note(note, b"note: this part has no log: its file is empty\n");
+}
+
+/// Ends the draft of a log, after the work that wrote it has ended with a status: a log, which may be empty, takes the
+/// name's place, and where there is none the draft is discarded.
+#[tactic(auto, using(crate::proofs::LogEnds::log_ends))]
+fn settle_log<W: Outside, N: Sink>(
+    alloc: Global,
+    outside: &mut W,
+    name: &str,
+    draft: W::Draft,
+    ended: Status,
+    note: &mut N,
+) -> Status
+    ensures { EndsLog name.now ended (port_state W.Draft.written W.Draft.faults draft).bytes
+        (files_before_after W.holds W.faults outside.old outside.new)
+        (before_after N.written N.faults note.old note.new)
+        result }
+{
+    if !is_done(ended) {
+        outside.discard(draft);
+        return ended;
+    }
+    let has_bytes = W::is_begun(&draft);
+    match outside.keep(alloc, name, draft) {
+        Ok(()) => {
+            tell_log(note, has_bytes);
+            ended
+        }
+        Err(reason) => report_fault(note, Call::Keep, name, &reason),
     }
 }
 
@@ -61,7 +123,7 @@ fn log_to<A: Work, L: Work, W: Outside, S: Source, O: Sink, N: Sink>(
     };
     let first = answers.work(alloc, outside, source, out, note);
     let ended = log_after(alloc, logs, first, outside, source, &mut draft, note);
-    settle(alloc, outside, name, draft, ended, note)
+    settle_log(alloc, outside, name, draft, ended, note)
 }
 
 /// An answer whose log may go to a file, as work.

@@ -1,9 +1,10 @@
 //! The line for people after an error line.
 
+use crate::remarks::{names, push_remarks, push_unwritten};
 use crate::remembering::{Recalls, Retells};
 use command_line::{Command, Format, read_words};
 use error_help::{Input, Inputs, Subject, push_explained};
-use file_words::{FileLine, is_standard, read_line};
+use file_words::{FileLine, ends_with, is_standard, read_line};
 use format_names::{FormatPair, NetFormat};
 use frame_core::Status;
 use front_large::{Large, large_in};
@@ -14,10 +15,29 @@ use std::alloc::{AllocError, Global};
 pub trait Rereads {
     /// The bytes of a plain file; None if it is none, too long, or can't be read.
     fn reread(&self, alloc: Global, name: &str) -> Option<Vec<u8>>;
+
+    /// Whether a name leads to what can be read but once, as a pipe.
+    fn is_read_once(&self, name: &str) -> bool;
+}
+
+/// What `improve` reads that asks for BLIF: AIGER, if no format is named and the file's name ends so.
+fn improve_subject(line: &FileLine) -> Subject {
+    if names(b"--format", &line.words) {
+        return Subject::Blif;
+    }
+    match line.operands.first() {
+        Some(file) if names_aiger(file.as_bytes()) => Subject::Aiger,
+        _ => Subject::Blif,
+    }
+}
+
+/// Whether a file is in AIGER by the end of its name.
+fn names_aiger(file: &[u8]) -> bool {
+    ends_with(file, b".aag") || ends_with(file, b".aig")
 }
 
 /// What a command reads.
-fn subject_of(command: &Command) -> Subject {
+fn subject_of(command: &Command, line: &FileLine) -> Subject {
     match command {
         Command::Synth(_) | Command::LeastDepth(_) => Subject::Tables,
         Command::Agree => Subject::Question,
@@ -30,7 +50,7 @@ fn subject_of(command: &Command) -> Subject {
         Command::Improve {
             format: Format::Blif,
             settings: _,
-        } => Subject::Blif,
+        } => improve_subject(line),
         Command::Gen { .. } => Subject::Blif,
         Command::Equiv(_) => Subject::Pair,
     }
@@ -161,7 +181,8 @@ fn large_subject(alloc: Global, words: &Vec<String>) -> Option<Subject> {
 }
 
 /// What the command of a line reads; None if its words are none of a command.
-fn line_subject(alloc: Global, words: &Vec<String>) -> Option<Subject> {
+fn line_subject(alloc: Global, line: &FileLine) -> Option<Subject> {
+    let words = &line.words;
     let (name, _) = words.split_first()?;
     if name.as_bytes() == b"formula".as_slice() {
         return Some(Subject::Certificate);
@@ -170,24 +191,14 @@ fn line_subject(alloc: Global, words: &Vec<String>) -> Option<Subject> {
         return Some(Subject::Pair);
     }
     match read_words(words) {
-        Ok(command) => Some(subject_of(&command)),
+        Ok(command) => Some(subject_of(&command, line)),
         Err(_) => large_subject(alloc, words),
     }
 }
 
-/// Whether words ask for a miter, which is of netlists in BLIF.
-fn names_formula(words: &[String]) -> bool {
-    for word in words {
-        if word.as_bytes() == b"--formula".as_slice() {
-            return true;
-        }
-    }
-    false
-}
-
 /// The formats in which two netlists are read, where the words of a line ask for these.
 fn read_as(asked: FormatPair, words: &[String]) -> FormatPair {
-    if names_formula(words) {
+    if names(b"--formula", words) {
         FormatPair {
             first: NetFormat::Blif,
             second: NetFormat::Blif,
@@ -208,7 +219,7 @@ fn push_of_line<R: Rereads>(
     error_line: &[u8],
     reader: &R,
 ) -> Result<(), AllocError> {
-    let Some(subject) = line_subject(alloc, &line.words) else {
+    let Some(subject) = line_subject(alloc, line) else {
         return Ok(());
     };
     let bytes = file_bytes(alloc, reader, line.operands.first());
@@ -223,7 +234,24 @@ fn push_of_line<R: Rereads>(
         seen,
         is_whole,
         error_line,
-    )
+    )?;
+    push_remarks(text, formats, line, reader)
+}
+
+/// Appends which files a run couldn't write whose error line names none.
+fn push_unnamed(
+    alloc: Global,
+    text: &mut Vec<u8>,
+    words: &Vec<String>,
+    error_line: &[u8],
+) -> Result<(), AllocError> {
+    if error_line != b"error: WriteFault".as_slice() {
+        return Ok(());
+    }
+    match read_line(alloc, words)? {
+        Some(line) => push_unwritten(text, &line),
+        None => Ok(()),
+    }
 }
 
 /// The line for people of a run without an answer; empty if there is nothing to say. Two netlists are in these formats.
@@ -253,8 +281,8 @@ fn line_for<S: Recalls, N: Retells, R: Rereads>(
                 )?;
             }
         }
-        Status::Done | Status::Undecided => {}
-        Status::ReadFault | Status::WriteFault | Status::Memory => {}
+        Status::WriteFault => push_unnamed(alloc, &mut text, words, note.last_line())?,
+        Status::Done | Status::Undecided | Status::ReadFault | Status::Memory => {}
     }
     Ok(text)
 }

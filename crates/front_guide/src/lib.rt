@@ -16,6 +16,7 @@
 
 mod explaining;
 mod guiding;
+mod remarks;
 mod remembering;
 
 pub use explaining::Rereads;

@@ -124,6 +124,20 @@ const LINES: &[(Subject, &str, &str, &str)] = &[
         "a:5: `aag M I L O A`, then inputs, latches, outputs, gates and symbols (batsokemi help aiger)\n",
     ),
     (
+        Subject::Blif,
+        "error: Syntax 1",
+        "aag 3 2 0 1 1\n2\n",
+        "a:1: aag 3 2 0 1 1: a statement as `.names a b y`, or a line of its table as `1- 1` (batsokemi help blif); \
+         it looks like AIGER\n",
+    ),
+    (
+        Subject::Certificate,
+        "error: Syntax 1",
+        "chains 1\r\n",
+        "a:1: chains 1\\x0d: a line of a certificate in its one spelling (batsokemi help certificates); \
+         its lines end with CR LF, and not with LF alone\n",
+    ),
+    (
         Subject::Pair,
         "error: Second Undriven q",
         NETLIST,
@@ -185,7 +199,8 @@ const FORMATS: &[(Subject, &str, &str, &str)] = &[
         Subject::Blif,
         "error: First Syntax 1",
         "aag 3 2\n",
-        "a:1: aag 3 2: a statement as `.names a b y`, or a line of its table as `1- 1` (batsokemi help blif)\n",
+        "a:1: aag 3 2: a statement as `.names a b y`, or a line of its table as `1- 1` (batsokemi help blif); \
+         it looks like AIGER\n",
     ),
     (
         Subject::Blif,

@@ -104,6 +104,28 @@ const WRONG: &[(&str, &str)] = &[
         "batsokemi: with --at equiv reads two files (batsokemi help equiv)\n",
     ),
     (
+        "synth --size 7 --max 5",
+        "batsokemi: --size is at most --max (batsokemi help synth)\n",
+    ),
+    (
+        "synth --size 3 --certificate c",
+        "batsokemi: with --size only a part is written, to the file of -o, and not of --certificate \
+         (batsokemi help synth)\n",
+    ),
+    (
+        "synth --part 2 a",
+        "batsokemi: synth needs --size with a value: 0 to 16 (batsokemi help synth)\n",
+    ),
+    (
+        "equiv --formula f - b",
+        "batsokemi: with --formula both netlists are read twice: they have to be files (batsokemi help equiv)\n",
+    ),
+    (
+        "improve --basis all -- x.aag",
+        "batsokemi: for AIGER the basis is without 0110 and 1001, as u2 or nand, and not 'all' \
+         (batsokemi help improve)\n",
+    ),
+    (
         "gen x",
         "batsokemi: gen reads no file, and 'x' is one more (batsokemi help gen)\n",
     ),

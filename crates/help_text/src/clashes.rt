@@ -1,44 +1,249 @@
-//! What options of a command ask of each other.
+//! What options of a command ask of each other: a table of rules, of which the first that words break is told.
 
 use crate::commands::{CommandName, name_of};
-use crate::options::{Row, row_named};
+use crate::options::row_named;
 use crate::pen::{Part, push_parts};
 use crate::phrases::{push_takes, push_word};
 use crate::values::{ends_with, file_at, has_value, value_of};
 use op_basis::{BENCH, read_basis};
 use std::alloc::AllocError;
+use text_core::number_up_to;
 
-/// The first fault of options taken together.
+/// The operators that AIGER can express: all but XOR and its complement.
+const AND_SET: u16 = 64_959;
+
+/// When words break a rule.
 #[derive(Clone, Copy)]
-pub(crate) enum Clash<'a> {
-    /// This option is needed.
-    Needed(Row),
-    /// `--least-depth yes` without `--method fence`.
-    NotByFence,
-    /// `--format bench` with an operator that BENCH doesn't have.
-    NotOfBench(&'a [u8]),
-    /// These two options name one file.
+enum Breach {
+    /// This option isn't named.
+    Missing(&'static [u8]),
+    /// The first option is named, and the second isn't.
+    Alone(&'static [u8], &'static [u8]),
+    /// Both options are named.
+    Both(&'static [u8], &'static [u8]),
+    /// The first option is named, and the second has this value.
+    Beside(&'static [u8], &'static [u8], &'static [u8]),
+    /// The first option has the first value, and the second option hasn't the second value.
+    Without(&'static [u8], &'static [u8], &'static [u8], &'static [u8]),
+    /// The number of the first option is greater than that of the second.
+    Greater(&'static [u8], &'static [u8]),
+    /// Both options name one file.
     OneFile(&'static [u8], &'static [u8]),
-    /// This option names one of the two netlists.
-    Netlist(&'static [u8]),
     /// This option names standard output.
     ToOutput(&'static [u8]),
-    /// `--log` without a certificate that is a file.
-    LogOfInput,
-    /// `--at` and this option.
-    NotWithBits(&'static [u8]),
-    /// `--at` without two files.
-    TwoForBits,
+    /// This option names one of the two netlists.
+    Netlist(&'static [u8]),
+    /// This option is named, and the file at this place is missing or standard input.
+    Unnamed(&'static [u8], usize),
+    /// This option is named, and fewer than two files are.
+    Few(&'static [u8]),
+    /// The netlist is in BENCH, and the basis has an operator that BENCH doesn't have.
+    BeyondBench,
+    /// The netlist may be in AIGER, and the basis has an operator that AIGER can't express.
+    BeyondAiger,
 }
 
-/// The options of `equiv` that don't go with `--at`.
-const NOT_WITH_BITS: &[&[u8]] = &[b"--conflicts", b"--formula", b"--log", b"--certificate"];
+/// A rule: when words break it, and what is said then.
+#[derive(Clone, Copy)]
+pub(crate) struct Rule {
+    breach: Breach,
+    says: &'static [u8],
+}
 
-/// Whether a basis has an operator that BENCH doesn't have.
-fn is_beyond_bench(word: &[u8]) -> bool {
-    match read_basis(word) {
-        Ok(basis) => basis.get() & BENCH != basis.get(),
-        Err(_) => false,
+/// The rules of all commands.
+const COMMON: &[Rule] = &[
+    Rule {
+        breach: Breach::OneFile(b"-o", b"--certificate"),
+        says: b"-o and --certificate name one file",
+    },
+    Rule {
+        breach: Breach::ToOutput(b"--certificate"),
+        says: b"--certificate names a file, and not standard output",
+    },
+];
+
+const SYNTH: &[Rule] = &[
+    Rule {
+        breach: Breach::Without(b"--least-depth", b"yes", b"--method", b"fence"),
+        says: b"--least-depth yes goes with --method fence alone",
+    },
+    Rule {
+        breach: Breach::Alone(b"--part", b"--size"),
+        says: b"",
+    },
+    Rule {
+        breach: Breach::Greater(b"--size", b"--max"),
+        says: b"--size is at most --max",
+    },
+    Rule {
+        breach: Breach::Both(b"--size", b"--certificate"),
+        says: b"with --size only a part is written, to the file of -o, and not of --certificate",
+    },
+    Rule {
+        breach: Breach::Beside(b"--size", b"--least-depth", b"yes"),
+        says: b"with --size only a part is searched, without --least-depth yes",
+    },
+];
+
+const FORMULA: &[Rule] = &[
+    Rule {
+        breach: Breach::ToOutput(b"--log"),
+        says: b"--log names a file, and not standard output",
+    },
+    Rule {
+        breach: Breach::OneFile(b"-o", b"--log"),
+        says: b"-o and --log name one file",
+    },
+    Rule {
+        breach: Breach::Unnamed(b"--log", 0),
+        says: b"with --log the certificate is read twice: it has to be a file",
+    },
+];
+
+const IMPROVE: &[Rule] = &[
+    Rule {
+        breach: Breach::BeyondBench,
+        says: b"with --format bench the basis has operators of bench alone, and not ",
+    },
+    Rule {
+        breach: Breach::BeyondAiger,
+        says: b"for AIGER the basis is without 0110 and 1001, as u2 or nand, and not ",
+    },
+];
+
+const EQUIV: &[Rule] = &[
+    Rule {
+        breach: Breach::Both(b"--at", b"--conflicts"),
+        says: b"--at asks for values alone, without --conflicts",
+    },
+    Rule {
+        breach: Breach::Both(b"--at", b"--formula"),
+        says: b"--at asks for values alone, without --formula",
+    },
+    Rule {
+        breach: Breach::Both(b"--at", b"--log"),
+        says: b"--at asks for values alone, without --log",
+    },
+    Rule {
+        breach: Breach::Both(b"--at", b"--certificate"),
+        says: b"--at asks for values alone, without --certificate",
+    },
+    Rule {
+        breach: Breach::Few(b"--at"),
+        says: b"with --at equiv reads two files",
+    },
+    Rule {
+        breach: Breach::Alone(b"--log", b"--formula"),
+        says: b"",
+    },
+    Rule {
+        breach: Breach::ToOutput(b"--formula"),
+        says: b"--formula names a file, and not standard output",
+    },
+    Rule {
+        breach: Breach::ToOutput(b"--log"),
+        says: b"--log names a file, and not standard output",
+    },
+    Rule {
+        breach: Breach::OneFile(b"-o", b"--formula"),
+        says: b"-o and --formula name one file",
+    },
+    Rule {
+        breach: Breach::OneFile(b"--certificate", b"--formula"),
+        says: b"--certificate and --formula name one file",
+    },
+    Rule {
+        breach: Breach::OneFile(b"--formula", b"--log"),
+        says: b"--formula and --log name one file",
+    },
+    Rule {
+        breach: Breach::OneFile(b"-o", b"--log"),
+        says: b"-o and --log name one file",
+    },
+    Rule {
+        breach: Breach::OneFile(b"--certificate", b"--log"),
+        says: b"--certificate and --log name one file",
+    },
+    Rule {
+        breach: Breach::Netlist(b"--formula"),
+        says: b"--formula names a file of its own, and not one of the netlists",
+    },
+    Rule {
+        breach: Breach::Netlist(b"--log"),
+        says: b"--log names a file of its own, and not one of the netlists",
+    },
+    Rule {
+        breach: Breach::Unnamed(b"--formula", 0),
+        says: b"with --formula both netlists are read twice: they have to be files",
+    },
+    Rule {
+        breach: Breach::Unnamed(b"--formula", 1),
+        says: b"with --formula both netlists are read twice: they have to be files",
+    },
+    Rule {
+        breach: Breach::Few(b"--format"),
+        says: b"with --format equiv reads two files",
+    },
+];
+
+const GEN: &[Rule] = &[Rule {
+    breach: Breach::Missing(b"--blocks"),
+    says: b"",
+}];
+
+/// The rules of a command.
+fn rules_of(command: CommandName) -> &'static [Rule] {
+    match command {
+        CommandName::Synth => SYNTH,
+        CommandName::Improve => IMPROVE,
+        CommandName::Gen => GEN,
+        CommandName::Formula => FORMULA,
+        CommandName::Equiv => EQUIV,
+        CommandName::Recheck | CommandName::Agree => &[],
+    }
+}
+
+// ---- when words break them
+
+/// Whether an option is named.
+fn is_named(name: &[u8], words: &[String]) -> bool {
+    value_of(name, words).is_some()
+}
+
+/// Whether two options name one file.
+fn is_one_file(name: &[u8], other: &[u8], words: &[String]) -> bool {
+    match (value_of(name, words), value_of(other, words)) {
+        (Some(file), Some(other_file)) => file == other_file,
+        _ => false,
+    }
+}
+
+/// The number that an option has.
+fn number_at(name: &[u8], words: &[String]) -> Option<u32> {
+    number_up_to(u32::MAX, value_of(name, words)?)
+}
+
+/// Whether the number of an option is greater than that of another.
+fn is_greater(name: &[u8], other: &[u8], words: &[String]) -> bool {
+    match (number_at(name, words), number_at(other, words)) {
+        (Some(number), Some(bound)) => number > bound,
+        _ => false,
+    }
+}
+
+/// Whether an option names one of the two netlists.
+fn is_netlist(name: &[u8], words: &[String]) -> bool {
+    match value_of(name, words) {
+        Some(file) => file_at(0, words) == Some(file) || file_at(1, words) == Some(file),
+        None => false,
+    }
+}
+
+/// Whether the file at a place is named, and isn't standard input.
+fn is_plain(place: usize, words: &[String]) -> bool {
+    match file_at(place, words) {
+        Some(file) => file != b"-".as_slice(),
+        None => false,
     }
 }
 
@@ -53,207 +258,90 @@ fn is_bench(words: &[String]) -> bool {
     }
 }
 
-/// What options of `improve` ask of each other.
-fn improve_clash(words: &[String]) -> Option<Clash<'_>> {
-    match value_of(b"--basis", words) {
-        Some(basis) if is_bench(words) && is_beyond_bench(basis) => Some(Clash::NotOfBench(basis)),
-        _ => None,
-    }
+/// Whether the netlist may be in AIGER. `--format aiger` may have been left out of the words.
+fn may_be_aiger(words: &[String]) -> bool {
+    !is_bench(words) && !has_value(b"--format", b"blif", words)
 }
 
-/// Whether two options name one file.
-fn is_one_file(name: &[u8], other: &[u8], words: &[String]) -> bool {
-    match (value_of(name, words), value_of(other, words)) {
-        (Some(file), Some(other_file)) => file == other_file,
-        _ => false,
-    }
-}
-
-/// What the file of a log needs.
-fn formula_clash(words: &[String]) -> Option<Clash<'_>> {
-    let Some(log) = value_of(b"--log", words) else {
-        return None;
+/// Whether the basis has an operator that isn't in a set.
+fn is_beyond(set: u16, words: &[String]) -> bool {
+    let Some(word) = value_of(b"--basis", words) else {
+        return false;
     };
-    if log == b"-".as_slice() {
-        return Some(Clash::ToOutput(b"--log"));
-    }
-    if is_one_file(b"-o", b"--log", words) {
-        return Some(Clash::OneFile(b"-o", b"--log"));
-    }
-    match file_at(0, words) {
-        Some(file) if file != b"-".as_slice() => None,
-        _ => Some(Clash::LogOfInput),
+    match read_basis(word) {
+        Ok(basis) => basis.get() & set != basis.get(),
+        Err(_) => false,
     }
 }
 
-/// Whether an option names one of the two netlists.
-fn is_netlist(name: &[u8], words: &[String]) -> bool {
-    match value_of(name, words) {
-        Some(file) => file_at(0, words) == Some(file) || file_at(1, words) == Some(file),
-        None => false,
+/// Whether words break a rule.
+fn is_broken(breach: Breach, words: &[String]) -> bool {
+    match breach {
+        Breach::Missing(name) => !is_named(name, words),
+        Breach::Alone(name, other) => is_named(name, words) && !is_named(other, words),
+        Breach::Both(name, other) => is_named(name, words) && is_named(other, words),
+        Breach::Beside(name, other, value) => {
+            is_named(name, words) && has_value(other, value, words)
+        }
+        Breach::Without(name, value, other, other_value) => {
+            has_value(name, value, words) && !has_value(other, other_value, words)
+        }
+        Breach::Greater(name, other) => is_greater(name, other, words),
+        Breach::OneFile(name, other) => is_one_file(name, other, words),
+        Breach::ToOutput(name) => has_value(name, b"-", words),
+        Breach::Netlist(name) => is_netlist(name, words),
+        Breach::Unnamed(name, place) => is_named(name, words) && !is_plain(place, words),
+        Breach::Few(name) => is_named(name, words) && file_at(1, words).is_none(),
+        Breach::BeyondBench => is_bench(words) && is_beyond(BENCH, words),
+        Breach::BeyondAiger => may_be_aiger(words) && is_beyond(AND_SET, words),
     }
 }
 
-/// What a file needs that comes with a miter; `name` is the option that names it.
-fn own_file_clash(name: &'static [u8], words: &[String]) -> Option<Clash<'static>> {
-    if has_value(name, b"-", words) {
-        return Some(Clash::ToOutput(name));
-    }
-    if is_one_file(b"-o", name, words) {
-        return Some(Clash::OneFile(b"-o", name));
-    }
-    if is_one_file(b"--certificate", name, words) {
-        return Some(Clash::OneFile(b"--certificate", name));
-    }
-    if is_netlist(name, words) {
-        return Some(Clash::Netlist(name));
-    }
-    None
-}
-
-/// What the files of a miter need.
-fn files_clash(words: &[String]) -> Option<Clash<'static>> {
-    if let Some(clash) = own_file_clash(b"--formula", words) {
-        return Some(clash);
-    }
-    if is_one_file(b"--formula", b"--log", words) {
-        return Some(Clash::OneFile(b"--formula", b"--log"));
-    }
-    own_file_clash(b"--log", words)
-}
-
-/// What a miter needs.
-fn miter_clash(words: &[String]) -> Option<Clash<'static>> {
-    if value_of(b"--formula", words).is_some() {
-        return files_clash(words);
-    }
-    if value_of(b"--log", words).is_none() {
-        return None;
-    }
-    match row_named(CommandName::Equiv, b"--formula") {
-        Some(row) => Some(Clash::Needed(row)),
-        None => None,
-    }
-}
-
-/// What goes with `--at`.
-fn bits_clash(words: &[String]) -> Option<Clash<'_>> {
-    for name in NOT_WITH_BITS {
-        if value_of(name, words).is_some() {
-            return Some(Clash::NotWithBits(name));
+/// The first of some rules that words break.
+fn first_broken(rules: &[Rule], words: &[String]) -> Option<Rule> {
+    for rule in rules {
+        if is_broken(rule.breach, words) {
+            return Some(*rule);
         }
     }
-    if file_at(1, words).is_none() {
-        return Some(Clash::TwoForBits);
-    }
     None
 }
 
-/// What options of `equiv` ask of each other.
-fn equiv_clash(words: &[String]) -> Option<Clash<'_>> {
-    if value_of(b"--at", words).is_some() {
-        bits_clash(words)
-    } else {
-        miter_clash(words)
+/// The first rule that the words after a command break.
+pub(crate) fn first_clash(command: CommandName, words: &[String]) -> Option<Rule> {
+    match first_broken(COMMON, words) {
+        Some(rule) => Some(rule),
+        None => first_broken(rules_of(command), words),
     }
 }
 
-/// What options of `synth` ask of each other.
-fn synth_clash(words: &[String]) -> Option<Clash<'_>> {
-    if has_value(b"--least-depth", b"yes", words) && !has_value(b"--method", b"fence", words) {
-        return Some(Clash::NotByFence);
-    }
-    if value_of(b"--part", words).is_none() || value_of(b"--size", words).is_some() {
-        return None;
-    }
-    match row_named(CommandName::Synth, b"--size") {
-        Some(row) => Some(Clash::Needed(row)),
-        None => None,
-    }
+// ---- what is said
+
+/// Appends that a command needs an option.
+fn push_needed(text: &mut Vec<u8>, command: CommandName, name: &[u8]) -> Result<(), AllocError> {
+    let Some(row) = row_named(command, name) else {
+        return Ok(());
+    };
+    push_parts(
+        text,
+        &[Part::Text(name_of(command)), Part::Text(b" needs ")],
+    )?;
+    push_takes(text, &row, b" with a value: ")
 }
 
-/// What `gen` needs.
-fn gen_clash(words: &[String]) -> Option<Clash<'_>> {
-    if value_of(b"--blocks", words).is_some() {
-        return None;
-    }
-    match row_named(CommandName::Gen, b"--blocks") {
-        Some(row) => Some(Clash::Needed(row)),
-        None => None,
-    }
-}
-
-/// What options ask of each other.
-pub(crate) fn first_clash(command: CommandName, words: &[String]) -> Option<Clash<'_>> {
-    if is_one_file(b"-o", b"--certificate", words) {
-        return Some(Clash::OneFile(b"-o", b"--certificate"));
-    }
-    match command {
-        CommandName::Synth => synth_clash(words),
-        CommandName::Improve => improve_clash(words),
-        CommandName::Gen => gen_clash(words),
-        CommandName::Formula => formula_clash(words),
-        CommandName::Equiv => equiv_clash(words),
-        CommandName::Recheck | CommandName::Agree => None,
-    }
-}
-
-/// Appends what options don't allow together.
+/// Appends what a rule says that words break.
 pub(crate) fn push_clash(
     text: &mut Vec<u8>,
     command: CommandName,
-    clash: Clash,
+    rule: Rule,
+    words: &[String],
 ) -> Result<(), AllocError> {
-    match clash {
-        Clash::Needed(row) => {
-            push_parts(
-                text,
-                &[Part::Text(name_of(command)), Part::Text(b" needs ")],
-            )?;
-            push_takes(text, &row, b" with a value: ")
+    match rule.breach {
+        Breach::Missing(name) | Breach::Alone(_, name) => push_needed(text, command, name),
+        Breach::BeyondBench | Breach::BeyondAiger => {
+            let basis = value_of(b"--basis", words).unwrap_or(b"");
+            push_word(text, rule.says, basis, b"")
         }
-        Clash::NotByFence => text.extend_from_slice(
-            b"--least-depth yes goes with --method fence alone",
-        ),
-        Clash::NotOfBench(word) => push_word(
-            text,
-            b"with --format bench the basis has operators of bench alone, and not ",
-            word,
-            b"",
-        ),
-        Clash::OneFile(name, other) => push_parts(
-            text,
-            &[
-                Part::Text(name),
-                Part::Text(b" and "),
-                Part::Text(other),
-                Part::Text(b" name one file"),
-            ],
-        ),
-        Clash::Netlist(name) => push_parts(
-            text,
-            &[
-                Part::Text(name),
-                Part::Text(b" names a file of its own, and not one of the netlists"),
-            ],
-        ),
-        Clash::ToOutput(name) => push_parts(
-            text,
-            &[
-                Part::Text(name),
-                Part::Text(b" names a file, and not standard output"),
-            ],
-        ),
-        Clash::LogOfInput => text.extend_from_slice(
-            b"with --log the certificate is read twice: it has to be a file",
-        ),
-        Clash::NotWithBits(name) => push_parts(
-            text,
-            &[
-                Part::Text(b"--at asks for values alone, without "),
-                Part::Text(name),
-            ],
-        ),
-        Clash::TwoForBits => text.extend_from_slice(b"with --at equiv reads two files"),
+        _ => text.extend_from_slice(rule.says),
     }
 }

@@ -188,7 +188,7 @@ fn push_first_clash(
     words: &[String],
 ) -> Result<(), AllocError> {
     match first_clash(command, words) {
-        Some(clash) => push_clash(text, command, clash),
+        Some(rule) => push_clash(text, command, rule, words),
         None => text.extend_from_slice(b"these words are no command line"),
     }
 }

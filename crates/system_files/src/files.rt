@@ -70,6 +70,15 @@ fn reason_of(alloc: Global, error: &Error) -> Reason {
     Reason { text }
 }
 
+/// The reason where a draft that is written in place would be read again.
+fn unreadable(alloc: Global) -> Reason {
+    let text = match Vec::from_slice(alloc, b"it isn't a plain file, and so can't be read again") {
+        Ok(text) => text,
+        Err(_) => Vec::new(alloc),
+    };
+    Reason { text }
+}
+
 /// The path of a draft beside a file: `NAME.part.PID`.
 fn part_of(alloc: Global, whole: &str, id: u32) -> Result<String, AllocError> {
     format!(in alloc; "{whole}.part.{id}")
@@ -153,7 +162,7 @@ impl<'a, T: Tell> SystemFiles<'a, T> {
         })
     }
 
-    /// Creates a draft.
+    /// Creates a draft. An empty name leads nowhere.
     fn create_draft(&self, alloc: Global, name: &str) -> io::Result<SystemDraft<'a, T>> {
         match fs::metadata(self.rt, name) {
             Ok(found) if found.is_file() => self.create_beside(
@@ -162,18 +171,21 @@ impl<'a, T: Tell> SystemFiles<'a, T> {
                 Some(found.permissions()),
             ),
             Ok(_) => self.open_in_place(name),
-            Err(error) if error.kind() == ErrorKind::NotFound => self.create_beside(
-                alloc, name, None,
-            ),
+            Err(error) if error.kind() == ErrorKind::NotFound && !name.is_empty() => {
+                self.create_beside(alloc, name, None)
+            }
             Err(error) => Err(error),
         }
     }
 
     /// Opens what was written to a draft. What is written in place can't be read again.
-    fn open_part(&self, draft: &SystemDraft<'a, T>) -> io::Result<File> {
-        match &draft.paths {
-            None => Err(Error::from(ErrorKind::Unsupported)),
-            Some(paths) => File::open(self.rt, paths.part.as_str()),
+    fn open_part(&self, alloc: Global, draft: &SystemDraft<'a, T>) -> Result<File, Reason> {
+        let Some(paths) = &draft.paths else {
+            return Err(unreadable(alloc));
+        };
+        match File::open(self.rt, paths.part.as_str()) {
+            Ok(file) => Ok(file),
+            Err(error) => Err(reason_of(alloc, &error)),
         }
     }
 
@@ -244,11 +256,11 @@ impl<'a, T: Tell> Outside for SystemFiles<'a, T> {
 
     #[tactic(auto, using(crate::proofs::Failures::failures))]
     fn reopen(&mut self, alloc: Global, draft: &SystemDraft<'a, T>) -> Result<Self::Input, Reason> {
-        match self.open_part(draft) {
+        match self.open_part(alloc, draft) {
             Ok(file) => Ok(WatchedSource::new(InputPort::new(file), self.tell)),
-            Err(error) => {
+            Err(reason) => {
                 self.unopened = self.unopened.saturating_add(1);
-                Err(reason_of(alloc, &error))
+                Err(reason)
             }
         }
     }
