@@ -1,0 +1,5 @@
+pub mod Sets
+pub mod Every
+pub mod Closures
+pub mod Placements
+pub mod Conversions
