@@ -22,7 +22,7 @@ pub enum FormatsAsked {
 }
 
 /// Whether two words are the same.
-pub(crate) fn is_word(word: &[u8], name: &[u8]) -> bool
+pub fn is_word(word: &[u8], name: &[u8]) -> bool
     ensures { result ≡ is_word_of word.now name.now }
 {
     word == name
@@ -30,7 +30,7 @@ pub(crate) fn is_word(word: &[u8], name: &[u8]) -> bool
 
 /// The word after a name, where names and values alternate; None if the name doesn't occur.
 #[tactic(auto, unfolding(command_line::specs::CommandLine::word_after))]
-pub(crate) fn word_after<'a>(name: &[u8], words: &'a [String]) -> Option<&'a [u8]>
+pub fn word_after<'a>(name: &[u8], words: &'a [String]) -> Option<&'a [u8]>
     ensures { option_map (λ (x : Bor (List ℕ)). x.now) result ≡
         word_after_of name.now (map string_bytes words.now) }
 {
@@ -94,7 +94,7 @@ fn names_aiger(files: &[String]) -> bool
 }
 
 /// Whether `improve` reads AIGER, by its options and files.
-fn wants_aiger(options: &[String], files: &[String]) -> bool
+pub fn wants_aiger(options: &[String], files: &[String]) -> bool
     ensures { result ≡ spec.wants_aiger (spec.named_format (map string_bytes options.now))
         (map string_bytes files.now) }
 {

@@ -16,6 +16,7 @@ mod asking;
 mod reading;
 mod rebuilding;
 
-pub use asking::FormatsAsked;
+pub use asking::{FormatsAsked, is_word, wants_aiger, word_after};
 pub use format_names::{FormatPair, NetFormat};
 pub use reading::{FormatWords, read_formats};
+pub use rebuilding::{push_basis, push_word, push_words};

@@ -11,7 +11,7 @@ use file_words::FileLine;
 use std::alloc::{AllocError, Global};
 
 /// Appends a copy of a word.
-fn push_word(alloc: Global, words: &mut Vec<String>, word: &str) -> Result<(), AllocError>
+pub fn push_word(alloc: Global, words: &mut Vec<String>, word: &str) -> Result<(), AllocError>
     ensures { OnOk result (map string_bytes words.new.items ≡ map string_bytes words.old.items ++ word.now ∷ []) }
 {
     words.push(String::from_str(alloc, word)?)?;
@@ -19,7 +19,7 @@ fn push_word(alloc: Global, words: &mut Vec<String>, word: &str) -> Result<(), A
 }
 
 /// Appends copies of words.
-fn push_words(alloc: Global, words: &mut Vec<String>, more: &[String]) -> Result<(), AllocError>
+pub fn push_words(alloc: Global, words: &mut Vec<String>, more: &[String]) -> Result<(), AllocError>
     ensures { OnOk result (map string_bytes words.new.items ≡
         map string_bytes words.old.items ++ map string_bytes more.now) }
 {
@@ -85,7 +85,11 @@ fn push_files(alloc: Global, words: &mut Vec<String>, line: &FileLine) -> Result
 }
 
 /// Appends the basis of AND gates with complements, if none is named.
-fn push_basis(alloc: Global, words: &mut Vec<String>, options: &[String]) -> Result<(), AllocError>
+pub fn push_basis(
+    alloc: Global,
+    words: &mut Vec<String>,
+    options: &[String],
+) -> Result<(), AllocError>
     ensures { OnOk result (map string_bytes words.new.items ≡
         map string_bytes words.old.items ++ spec.basis_words (map string_bytes options.now)) }
 {

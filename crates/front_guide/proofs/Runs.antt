@@ -1,6 +1,6 @@
 -- How a run ends that helps people.
-use Rattle.std.specs.Prelude.{◌≡◌, ◌≤◌, ℕ, List, true, false, refl}
-use Rattle.std.proofs.Common.{inl, inr}
+use Rattle.std.specs.Prelude.{◌≡◌, ◌≤◌, ℕ, List, Bool, true, false, refl}
+use Rattle.std.proofs.Common.{inl, inr, sym, ◌∙◌}
 use Rattle.std.proofs.lemmas.Grind.{common_steps}
 use Rattle.format_names.specs.declared.formats.FormatPair.{FormatPair}
 use Rattle.frame_core.specs.declared.status.Status.{Status}
@@ -11,7 +11,7 @@ use Rattle.front_core.specs.Asked.{IsNotPlain}
 use Rattle.front_core.specs.Front.{Promises, front_run}
 use Rattle.front_at.specs.AtRuns.{IsServed}
 use Rattle.front_guide.specs.Words.{asks_for_page}
-use Rattle.front_guide.specs.Guided.{IsPageStatus, IsGuided, is_found}
+use Rattle.front_guide.specs.Guided.{IsPageStatus, IsFollowed, IsGuided, is_found}
 
 -- a page was written
 pub paged : (formats : FormatPair) (promises : Promises) (words : List (List ℕ)) (files : Files) (source out out' note : PortState)
@@ -52,3 +52,15 @@ hinted formats promises words files source out note between note' hint status se
 })
 
 pub ruleset guided = (common_steps, paged, answered, hinted)
+
+-- ---- after a run
+
+pub nothing_more : (note : PortState) (status : Status) → IsFollowed note note status
+nothing_more note status = inl refl
+
+pub hint_more : (between after : PortState) (hint : List ℕ) (found : Bool) (status : Status) → found ≡ is_found status →
+    found ≡ false → Writes between after hint → between.faults ≤ after.faults → IsFollowed between after status
+hint_more between after hint found status same isnt writes rises =
+    inr (record { hint = hint; on_note = writes; rises = rises; unanswered = sym same ∙ isnt })
+
+pub ruleset following = (common_steps, nothing_more, hint_more)

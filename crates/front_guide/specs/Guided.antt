@@ -43,12 +43,16 @@ pub record IsHinted (between after : PortState) (status : Status) : Type 0 where
   pub rises : between.faults ≤ after.faults
   pub unanswered : is_found status ≡ false
 
+-- After a run, whose notes were in the first state, there came nothing, or a text for people.
+abbrev pub IsFollowed : PortState → PortState → Status → Type 0
+IsFollowed between after status = (after ≡ between) ⊎ IsHinted between after status
+
 -- The run ended, up to a state of its notes; after it came nothing, or a text for people. The formats are those of
 -- netlists whose values the words may ask for.
 pub record IsHelped (formats : FormatPair) (promises : Promises) (r : FrontRun) : Type 0 where
   pub between : PortState
   pub served : IsServed formats promises (up_to between r)
-  pub hinted : (r.note.1 ≡ between) ⊎ IsHinted between r.note.1 r.status
+  pub hinted : IsFollowed between r.note.1 r.status
 
 abbrev pub IsGuided : FormatPair → Promises → FrontRun → Type 0
 IsGuided formats promises r = IsPaged r ⊎ IsHelped formats promises r

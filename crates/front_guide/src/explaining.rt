@@ -254,6 +254,59 @@ fn push_unnamed(
     }
 }
 
+/// The line for people of a run without an answer over a netlist of a line; empty if there is nothing to say.
+fn line_of_netlist<S: Recalls, N: Retells, R: Rereads>(
+    alloc: Global,
+    format: NetFormat,
+    line: &FileLine,
+    source: &S,
+    note: &N,
+    reader: &R,
+) -> Result<Vec<u8>, AllocError> {
+    let mut text = Vec::new(alloc);
+    let bytes = file_bytes(alloc, reader, line.operands.first());
+    let formats = FormatPair {
+        first: format,
+        second: format,
+    };
+    push_of_inputs(
+        &mut text,
+        netlist_in(format),
+        formats,
+        &line.operands,
+        &bytes,
+        &None,
+        source.seen(),
+        source.is_whole(),
+        note.last_line(),
+    )?;
+    Ok(text)
+}
+
+/// The same; empty if memory runs out, or where the fault isn't the netlist's.
+pub(crate) fn netlist_line<S: Recalls, N: Retells, R: Rereads>(
+    alloc: Global,
+    format: NetFormat,
+    line: &FileLine,
+    status: Status,
+    source: &S,
+    note: &N,
+    reader: &R,
+) -> Vec<u8> {
+    let is_of_netlist = match status {
+        Status::Malformed | Status::Limit | Status::Refused => true,
+        Status::Usage | Status::Done | Status::Undecided => false,
+        Status::ReadFault | Status::WriteFault | Status::Memory => false,
+    };
+    if !is_of_netlist {
+        return Vec::new(alloc);
+    }
+    match line_of_netlist(alloc, format, line, source, note, reader) {
+        Ok(text) => text,
+        Err(_) => Vec::new(alloc),
+    }
+}
+
 /// The line for people of a run without an answer; empty if there is nothing to say. Two netlists are in these formats.
 fn line_for<S: Recalls, N: Retells, R: Rereads>(
     alloc: Global,

@@ -8,14 +8,15 @@ ghost use Rattle.frame_core.specs.Outside.{port_state, Writes};
 ghost use Rattle.frame_core.specs.Run.{before_after};
 ghost use Rattle.front_core.specs.Asked.{IsNotPlain};
 ghost use Rattle.front_core.specs.Front.{front_run, promised_by};
-ghost use Rattle.front_guide.specs.Guided.{IsPageStatus, IsGuided, is_found as is_found_of};
+ghost use Rattle.front_guide.specs.Guided.{IsPageStatus, IsFollowed, IsGuided, is_found as is_found_of};
 ghost use Rattle.front_guide.specs.Words as spec;
 
-use crate::explaining::{Rereads, people_line};
+use crate::explaining::{Rereads, netlist_line, people_line};
 use crate::remembering::{Recalls, Retells};
 use command_line::read_words;
 use file_io::Outside;
-use format_names::FormatPair;
+use file_words::FileLine;
+use format_names::{FormatPair, NetFormat};
 use frame_core::Status;
 use front_at::serve;
 use front_core::Program;
@@ -129,6 +130,26 @@ fn is_found(status: Status) -> bool
         Status::Usage | Status::Malformed | Status::Limit | Status::Refused => false,
         Status::ReadFault | Status::WriteFault | Status::Memory => false,
     }
+}
+
+/// Writes a line for people after the error line of a run over a netlist of a line, where it has no answer.
+#[tactic(auto, using(crate::proofs::Runs::following))]
+pub fn hint_of_netlist<S: Recalls, N: Retells, R: Rereads>(
+    alloc: Global,
+    format: NetFormat,
+    line: &FileLine,
+    status: Status,
+    source: &S,
+    note: &mut N,
+    reader: &R,
+)
+    ensures { IsFollowed (port_state N.written N.faults note.old) (port_state N.written N.faults note.new) status }
+{
+    if is_found(status) {
+        return;
+    }
+    let hint = netlist_line(alloc, format, line, status, source, note, reader);
+    write_hint(note, &hint);
 }
 
 /// Writes the page that words ask for; or runs the command that they ask for, and where it has no answer, writes a line

@@ -20,5 +20,5 @@ mod remarks;
 mod remembering;
 
 pub use explaining::Rereads;
-pub use guiding::guide;
+pub use guiding::{guide, hint_of_netlist};
 pub use remembering::{Recalls, Remembering, Retelling, Retells};

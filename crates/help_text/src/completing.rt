@@ -20,7 +20,7 @@ const BASES: &[&[u8]] = &[b"all", b"u2", b"bench", b"nand"];
 /// The words that may be the value of an option; none for a number or a file.
 fn values_of(row: &Row) -> &'static [&'static [u8]] {
     match row.allowed {
-        Allowed::Words(words) => words,
+        Allowed::Words(words) | Allowed::WordsOr(words, _) => words,
         Allowed::Basis => BASES,
         Allowed::Number(_, _) | Allowed::File | Allowed::Bits => &[],
     }

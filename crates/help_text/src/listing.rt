@@ -5,7 +5,16 @@ use crate::options::{Allowed, Row, default_of, options_of};
 use crate::pen::{Part, push_parts};
 use std::alloc::AllocError;
 
-/// Appends the kind of an option: `number LOW HIGH`, `word WORD..`, `basis`, `bits` or `file`.
+/// Appends words, each after a blank.
+fn push_words(table: &mut Vec<u8>, words: &[&'static [u8]]) -> Result<(), AllocError> {
+    for word in words {
+        push_parts(table, &[Part::Text(b" "), Part::Text(word)])?;
+    }
+    Ok(())
+}
+
+/// Appends the kind of an option: `number LOW HIGH`, `word WORD..`, `basis`, `bits` or `file`; `either
+/// HIGH WORD..` where it takes words and numbers up to HIGH.
 fn push_kind(table: &mut Vec<u8>, allowed: Allowed) -> Result<(), AllocError> {
     match allowed {
         Allowed::Number(low, high) => push_parts(
@@ -19,10 +28,11 @@ fn push_kind(table: &mut Vec<u8>, allowed: Allowed) -> Result<(), AllocError> {
         ),
         Allowed::Words(words) => {
             table.extend_from_slice(b"word")?;
-            for word in words {
-                push_parts(table, &[Part::Text(b" "), Part::Text(word)])?;
-            }
-            Ok(())
+            push_words(table, words)
+        }
+        Allowed::WordsOr(words, high) => {
+            push_parts(table, &[Part::Text(b"either "), Part::Number(high)])?;
+            push_words(table, words)
         }
         Allowed::Basis => table.extend_from_slice(b"basis"),
         Allowed::File => table.extend_from_slice(b"file"),

@@ -21,6 +21,8 @@ pub(crate) enum Allowed {
     File,
     /// Zeros and ones, or `-` for none.
     Bits,
+    /// One of these words, or a number up to this one.
+    WordsOr(&'static [&'static [u8]], u32),
 }
 
 /// The value of an option that isn't named.
@@ -63,6 +65,9 @@ pub(crate) struct Row {
 const MOST_OF_CERTIFICATE: u32 = 268_435_456;
 
 const MOST_OF_LONG: u32 = 2_147_483_647;
+
+/// The greatest number of levels that can be named.
+const MOST_LEVELS: u32 = 1_000_000;
 
 const YES_OR_NO: Allowed = Allowed::Words(&[b"yes", b"no"]);
 
@@ -266,6 +271,20 @@ const IMPROVE: &[Row] = &[
         allowed: Allowed::Basis,
         default: Default::Word(b"all"),
         says: b"operators that new gates may have; for BENCH a subset of `bench`, for AIGER all but 0110 and 1001",
+    },
+    Row {
+        name: b"--only",
+        value: b"yes or no",
+        allowed: YES_OR_NO,
+        default: Default::Word(b"no"),
+        says: b"all gates are over --basis: first each gate of another operator becomes gates over it",
+    },
+    Row {
+        name: b"--levels",
+        value: b"LEVELS",
+        allowed: Allowed::WordsOr(&[b"tell", b"keep"], MOST_LEVELS),
+        default: Default::Nothing,
+        says: b"tell: the report has the levels before and after; keep or N: no more levels than before, or than N",
     },
     METHOD,
     Row {

@@ -99,6 +99,10 @@ pub(crate) fn push_allowed(text: &mut Vec<u8>, allowed: Allowed) -> Result<(), A
             &[Part::Number(low), Part::Text(b" to "), Part::Number(high)],
         ),
         Allowed::Words(words) => push_listed(text, words),
+        Allowed::WordsOr(words, high) => {
+            push_listed(text, words)?;
+            push_parts(text, &[Part::Text(b", or 0 to "), Part::Number(high)])
+        }
         Allowed::Basis => text.extend_from_slice(
             b"all, u2, bench, nand, or operators as 0001,0110, each once",
         ),
@@ -230,7 +234,9 @@ with no more gates, by exact resynthesis of windows of up to --cap gates. For AI
 is u2: AND gates with complements. Its report goes to standard error:
 
   gates A -> B       two-input gates before and after: a wider .names counts as several, a copy or a
-                     constant as none
+                     constant as none; with --only yes, A counts them over the basis
+  levels D -> E      with --levels: the gates on a longest path, before and after; with keep or N these
+                     are all lines, since no window is searched exactly
   undecided G [P] C  the search for the window of C gates with root G (and partner P) spent its budget;
                      its certificate follows
   settled            no other listed window up to the cap has a smaller implementation

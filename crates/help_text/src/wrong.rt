@@ -46,6 +46,9 @@ fn takes(row: &Row, word: &[u8]) -> bool {
             None => false,
         },
         Allowed::Words(words) => is_among(word, words),
+        Allowed::WordsOr(words, high) => {
+            is_among(word, words) || number_up_to(high, word).is_some()
+        }
         Allowed::Basis => read_basis(word).is_ok(),
         Allowed::File => true,
         Allowed::Bits => is_bits(word),

@@ -17,3 +17,4 @@ mod writing;
 
 pub use improve_windows::{ImproveSettings, ImprovedText, NetError};
 pub use texts::improve_aiger;
+pub use writing::{CostedText, costed_text};

@@ -18,9 +18,9 @@ use std::alloc::{AllocError, Global};
 
 /// An AIGER text, and its cost.
 #[derive(Drop)]
-pub(crate) struct CostedText {
-    pub(crate) text: Vec<u8>,
-    pub(crate) cost: u32,
+pub struct CostedText {
+    pub text: Vec<u8>,
+    pub cost: u32,
 }
 
 /// The cost of a document.
@@ -45,7 +45,7 @@ fn file_cost(alloc: Global, file: &AigFile) -> Result<u32, AllocError>
 
 /// The AIGER text of a circuit that AIGER can express, and its cost.
 #[tactic(auto, using(crate::specs::AigerLaws::costing))]
-pub(crate) fn costed_text(alloc: Global, circuit: &Circuit) -> Result<CostedText, AllocError>
+pub fn costed_text(alloc: Global, circuit: &Circuit) -> Result<CostedText, AllocError>
     requires { CanWriteAiger circuit.now }
     ensures text { IfOk result (λ w. w.text.items ≡ spelled (file_of circuit.now)) }
     ensures cost { IfOk result (λ w. w.cost ≡ cost (document_of (file_of circuit.now))) }

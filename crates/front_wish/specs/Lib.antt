@@ -1,0 +1,2 @@
+pub mod WishAsked
+pub mod WishRuns

@@ -1,0 +1,7 @@
+pub mod Based
+pub mod LevelsReport
+pub mod TellingLaws
+pub mod TextLaws
+pub mod Texts
+pub mod Wished
+pub mod WishedLaws

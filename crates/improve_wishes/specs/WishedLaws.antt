@@ -1,0 +1,384 @@
+-- A circuit that was improved by wishes can be written, and its text is that of a netlist which was improved so.
+use Rattle.std.specs.Prelude.{◌≡◌, ℕ, ◌≤◌, ◌≢◌, ◌⊎◌, Bool, true, false, List, [], ◌∷◌, length, All, refl}
+use Rattle.std.proofs.Common.{arith, sym, ◌∙◌, ap, subst, inl, inr, ⊎_elim}
+use Rattle.std.proofs.lemmas.Grind.{common_steps}
+use Rattle.op_basis.specs.Basis.{members}
+use Rattle.net_theory.specs.declared.data.Gate.{Gate}
+use Rattle.net_theory.specs.Cost.{cost}
+use Rattle.net_theory.specs.Net.{Net}
+use Rattle.net_theory.specs.NameLaws.{all_at, at_all}
+use Rattle.net_theory.specs.Naming.{gate_names}
+use Rattle.net_theory.specs.Circuit.{Circuit, sources_of, IsProper, Describes}
+use Rattle.net_theory.specs.ExchangeLaws.{with_net}
+use Rattle.net_theory.specs.Operators.{HasOperatorsWithin}
+use Rattle.net_core.specs.Names.{HasRoomForNames}
+use Rattle.net_document.specs.Format.{Format, IsCircuitOfText, CanOperate, IsFormat}
+use Rattle.net_document.specs.EquivalenceLaws.{equivalent_same, describes_equivalent}
+use Rattle.blif_core.specs.Blif.{blif_format, CanWriteBlif}
+use Rattle.bench_core.specs.Bench.{bench_format}
+use Rattle.bench_core.specs.Writable.{HasGateWord}
+use Rattle.bench_laws.specs.Spelled.{IsGateWord, CanWriteBench}
+use Rattle.aiger_forms.specs.Forms.{aiger_forms}
+use Rattle.aiger_laws.specs.Writable.{IsAndGate, CanWriteAiger}
+use Rattle.settings.specs.declared.improve.ImproveSettings.{ImproveSettings}
+use Rattle.wish_names.specs.declared.wishes.Wishes.{Wishes}
+use Rattle.wish_names.specs.declared.wishes.LevelsAsked.{LevelsAsked}
+use Rattle.wish_names.specs.declared.wishes.LevelsAsked.TheVariants.{Untold, Tell, Keep, Most}
+use Rattle.net_levels.specs.Levels.{levels_of}
+use Rattle.net_basis.specs.OverBasis.{HaveOperatorsIn, IsCircuitOver, IsInexpressibleAt}
+use Rattle.improve_theory.specs.Undecided.{Undecided}
+use Rattle.improve_windows.specs.Improving.{FitsFormat, IsBetter}
+use Rattle.improve_windows.specs.ImprovingLaws.{named_can}
+use Rattle.improve_windows.specs.ReportLaws.{CanBeWritten}
+use Rattle.improve_levels.specs.Within.{IsBetterWithin}
+use Rattle.improve_wishes.specs.declared.bases.Based.{Based}
+use Rattle.improve_wishes.specs.declared.bases.Based.TheVariants.{Base, Cannot, TooMany}
+use Rattle.improve_wishes.specs.Based.{IfBase, IfNone, IsNamed, IsInexpressibleBy}
+use Rattle.improve_wishes.specs.LevelsReport.{wished_report}
+use Rattle.improve_wishes.specs.Wished.{IsOver, IsBaseNet, IsOverIf, IsReached, IsBetterBy, IsBase, IsTextBy, IsWished}
+
+-- ---- what is improved
+
+-- Without `--only yes` it is the circuit itself, and so it is where there are no gates.
+pub itself : (s : ImproveSettings) (c : Circuit) → IsProper c → IsBase false s c c
+itself s c is = record {
+  proper = is;
+  same = refl;
+  equivalent = record { inputs = refl; outputs = refl; clocks = refl; latches = refl; values = λ given. refl };
+  net = refl;
+  bare = λ none. refl;
+}
+
+no_operators : (basis : ℕ) (gs : List Gate) → length gs ≡ 0 → HaveOperatorsIn (members basis) gs
+no_operators basis [] none = record { each = λ i g at. absurd cc }
+no_operators basis (g ∷ gs) none = absurd (omega arith)
+
+bare_itself : (only : Bool) (s : ImproveSettings) (c : Circuit) → IsProper c → length c.net.gates ≡ 0 → IsBase only s c c
+bare_itself false s c is none = itself s c is
+bare_itself true s c is none = record {
+  proper = is;
+  same = refl;
+  equivalent = record { inputs = refl; outputs = refl; clocks = refl; latches = refl; values = λ given. refl };
+  net = no_operators s.basis c.net.gates none;
+  bare = λ same. refl;
+}
+
+pub base_itself : (only : Bool) (s : ImproveSettings) (c : Circuit) (converts : Bool) → IsProper c →
+    (converts ≡ false → (only ≡ false) ⊎ (length c.net.gates ≡ 0)) → converts ≡ false → IsBase only s c c
+base_itself only s c converts is why isnt = ⊎_elim
+    (λ no_wish. subst (λ (o : Bool). IsBase o s c c) (sym no_wish) (itself s c is))
+    (λ none. bare_itself only s c is none) (why isnt)
+
+base_over : (only : Bool) (s : ImproveSettings) (c b : Circuit) → only ≡ true → length c.net.gates ≢ 0 →
+    IsCircuitOver (members s.basis) c b → IsBase only s c b
+base_over only s c b wish some over = subst (λ (o : Bool). IsBase o s c b) (sym wish) (record {
+  proper = over.proper;
+  same = over.same;
+  equivalent = over.equivalent;
+  net = over.operators;
+  bare = λ none. absurd (some (ap (length {A = Gate}) none));
+})
+
+pub based_over : (found : Based) (only : Bool) (s : ImproveSettings) (c : Circuit) (converts : Bool) →
+    (converts ≡ true → (only ≡ true) × (length c.net.gates ≢ 0)) → converts ≡ true →
+    IfBase found (IsCircuitOver (members s.basis) c) → IfBase found (IsBase only s c)
+based_over (Base b) only s c converts why is over = base_over only s c b (why is).0 (why is).1 over
+based_over (Cannot name) only s c converts why is over = tt
+based_over TooMany only s c converts why is over = tt
+
+pub by_wish : (found : Based) (only : Bool) (c : Circuit) (converts : Bool) →
+    (converts ≡ true → (only ≡ true) × (length c.net.gates ≢ 0)) → converts ≡ true → IfNone found (only ≡ true)
+by_wish (Base b) only c converts why is = tt
+by_wish (Cannot name) only c converts why is = (why is).0
+by_wish TooMany only c converts why is = (why is).0
+
+pub some_gates : (only : Bool) (c : Circuit) (converts : Bool) →
+    (converts ≡ true → (only ≡ true) × (length c.net.gates ≢ 0)) → converts ≡ true → length c.net.gates ≢ 0
+some_gates only c converts why is = (why is).1
+
+pub ruleset basing = (common_steps, base_itself, based_over, by_wish, some_gates)
+
+pub cannot_by : (s : ImproveSettings) (c left : Circuit) (node : ℕ) (name : List ℕ) → left ≡ c →
+    IsInexpressibleAt (members s.basis) c.net node → IsNamed left node name → IsInexpressibleBy s c name
+cannot_by s c left node name same at named = record {
+  node = node;
+  inexpressible = at;
+  named = subst (λ (x : Circuit). IsNamed x node name) same named;
+}
+
+pub left_proper : (c left : Circuit) → left ≡ c → IsProper c → IsProper left
+left_proper c left same is = subst IsProper (sym same) is
+
+pub ruleset converting = (common_steps, cannot_by, left_proper)
+
+-- ---- operators
+
+over_of : (basis : ℕ) (b m : Net) → IsOver basis b → HasOperatorsWithin (members basis) b m → IsOver basis m
+over_of basis b m over within = record {
+  each = λ i g at. ⊎_elim (λ new. new) (λ old. subst (λ (op : ℕ). members basis op ≡ true) old.same
+      (over.each old.index old.gate old.at)) (within.each i g at);
+}
+
+over_if : (only : Bool) (s : ImproveSettings) (n b m : Net) → IsBaseNet only s n b →
+    HasOperatorsWithin (members s.basis) b m → IsOverIf only s m
+over_if false s n b m is within = tt
+over_if true s n b m is within = over_of s.basis b m is within
+
+-- ---- improving a circuit
+
+-- by exact windows
+windowed : (s : ImproveSettings) (levels : LevelsAsked) (c k : Circuit) (before after : ℕ) (settled : Bool)
+    (named : List Undecided) → k ≡ record c { net = k.net } → IsBetter blif_format s c k before after settled named →
+    IsReached levels s c.net k.net settled named →
+    IsBetterBy blif_format s levels c k before after settled named
+windowed s levels c k before after settled named same better reached = record {
+  proper = better.proper;
+  same = same;
+  equivalent = better.equivalent;
+  implements = better.left.cleaned_up.implements;
+  operators = better.left.operators;
+  reached = reached;
+  before_is = better.before_is;
+  after_is = better.after_is;
+  fewer = better.fewer;
+}
+
+pub by_windows : (s : ImproveSettings) (levels : LevelsAsked) (c k : Circuit) (before after : ℕ) (settled : Bool)
+    (named : List Undecided) → levels ≡ Untold → k ≡ record c { net = k.net } →
+    IsBetter blif_format s c k before after settled named → IsBetterBy blif_format s levels c k before after settled named
+by_windows s levels c k before after settled named is same better =
+    subst (λ (l : LevelsAsked). IsBetterBy blif_format s l c k before after settled named) (sym is)
+    (windowed s Untold c k before after settled named same better better.left)
+
+pub by_told_windows : (s : ImproveSettings) (levels : LevelsAsked) (c k : Circuit) (before after : ℕ) (settled : Bool)
+    (named : List Undecided) → levels ≡ Tell → k ≡ record c { net = k.net } →
+    IsBetter blif_format s c k before after settled named → IsBetterBy blif_format s levels c k before after settled named
+by_told_windows s levels c k before after settled named is same better =
+    subst (λ (l : LevelsAsked). IsBetterBy blif_format s l c k before after settled named) (sym is)
+    (windowed s Tell c k before after settled named same better better.left)
+
+pub windows_can : (s : ImproveSettings) (c k : Circuit) (before after : ℕ) (settled : Bool) (named : List Undecided) →
+    IsBetter blif_format s c k before after settled named → All CanBeWritten named
+windows_can s c k before after settled named better = named_can k.net s named better.left.undecided_are
+
+-- under a limit of levels
+limited : (s : ImproveSettings) (levels : LevelsAsked) (most : ℕ) (c k : Circuit) (before after : ℕ) (settled : Bool)
+    (named : List Undecided) → k ≡ record c { net = k.net } → IsBetterWithin blif_format s most c k before after →
+    IsReached levels s c.net k.net settled named → IsBetterBy blif_format s levels c k before after settled named
+limited s levels most c k before after settled named same better reached = record {
+  proper = better.proper;
+  same = same;
+  equivalent = better.equivalent;
+  implements = better.within.cleaned_up.implements;
+  operators = better.within.operators;
+  reached = reached;
+  before_is = better.before_is;
+  after_is = better.after_is;
+  fewer = better.fewer;
+}
+
+pub by_levels_kept : (s : ImproveSettings) (levels : LevelsAsked) (c k : Circuit) (before after : ℕ) (settled : Bool)
+    (named : List Undecided) → levels ≡ Keep → k ≡ record c { net = k.net } →
+    IsBetterWithin blif_format s 0 c k before after → IsBetterBy blif_format s levels c k before after settled named
+by_levels_kept s levels c k before after settled named is same better =
+    subst (λ (l : LevelsAsked). IsBetterBy blif_format s l c k before after settled named) (sym is)
+    (limited s Keep 0 c k before after settled named same better better.within)
+
+pub by_most_levels : (s : ImproveSettings) (levels : LevelsAsked) (most : ℕ) (c k : Circuit) (before after : ℕ)
+    (settled : Bool) (named : List Undecided) → levels ≡ Most most → k ≡ record c { net = k.net } →
+    IsBetterWithin blif_format s most c k before after → IsBetterBy blif_format s levels c k before after settled named
+by_most_levels s levels most c k before after settled named is same better =
+    subst (λ (l : LevelsAsked). IsBetterBy blif_format s l c k before after settled named) (sym is)
+    (limited s (Most most) most c k before after settled named same better better.within)
+
+pub none_can : (named : List Undecided) → length named ≡ 0 → All CanBeWritten named
+none_can named none = λ k d low. absurd (omega (arith, none, low))
+
+pub ruleset reaching = (common_steps, by_windows, by_told_windows, windows_can, by_levels_kept, by_most_levels, none_can)
+
+-- with the cost in another format
+pub better_as : (f g : Format) (s : ImproveSettings) (levels : LevelsAsked) (c k : Circuit) (before after : ℕ)
+    (settled : Bool) (named : List Undecided) → cost (g.written k) ≡ cost (f.written k) →
+    IsBetterBy f s levels c k before after settled named → IsBetterBy g s levels c k before after settled named
+better_as f g s levels c k before after settled named same better = record {
+  proper = better.proper;
+  same = better.same;
+  equivalent = better.equivalent;
+  implements = better.implements;
+  operators = better.operators;
+  reached = better.reached;
+  before_is = better.before_is;
+  after_is = better.after_is ∙ sym same;
+  fewer = better.fewer;
+}
+
+-- with the cost of its file
+pub better_counted : (f g : Format) (s : ImproveSettings) (levels : LevelsAsked) (c k : Circuit)
+    (before blif_after after : ℕ) (settled : Bool) (named : List Undecided) →
+    IsBetterBy f s levels c k before blif_after settled named → after ≡ cost (g.written k) →
+    after ≤ length k.net.gates → IsBetterBy g s levels c k before after settled named
+better_counted f g s levels c k before blif_after after settled named better is cheap = record {
+  proper = better.proper;
+  same = better.same;
+  equivalent = better.equivalent;
+  implements = better.implements;
+  operators = better.operators;
+  reached = better.reached;
+  before_is = better.before_is;
+  after_is = is;
+  fewer = omega (arith, cheap, better.before_is, better.implements.fewer);
+}
+
+-- ---- circuits that can be written
+
+can_operate : (f : Format) (s : ImproveSettings) (n m : Net) → FitsFormat f s →
+    HasOperatorsWithin (members s.basis) n m → CanOperate f n m
+can_operate f s n m fits within = record {
+  each = λ j h at. ⊎_elim (λ is. inl (fits h.op is)) (λ has. inr has) (within.each j h at);
+}
+
+-- a circuit that can be written where it has room for names
+abbrev pub CanIfRoom : (Circuit → Type 0) → Circuit → Type 0
+CanIfRoom Can b = HasRoomForNames b → Can b
+
+pub writable : (f g : Format) (Can : Circuit → Type 0) (s : ImproveSettings) (levels : LevelsAsked) (b k : Circuit)
+    (before after : ℕ) (settled : Bool) (named : List Undecided) → IsFormat f Can → FitsFormat f s → CanIfRoom Can b →
+    IsBetterBy g s levels b k before after settled named → HasRoomForNames k → Can k
+writable f g Can s levels b k before after settled named format fits can better room =
+    let before_room : HasRoomForNames b = subst HasRoomForNames better.same room in
+    subst Can (sym better.same)
+    (format.exchanged b k.net (can before_room) better.implements (can_operate f s b.net k.net fits better.operators))
+
+-- what can be written of a circuit can be written of what is improved of it
+abbrev pub KeepsWriting : (Circuit → Type 0) → Bool → ImproveSettings → Type 0
+KeepsWriting Can only s = (c b : Circuit) → IsBase only s c b → Can c → Can b
+
+pub base_can : (f : Format) (Can : Circuit → Type 0) (only : Bool) (s : ImproveSettings) (bytes : List ℕ)
+    (c b : Circuit) → IsFormat f Can → KeepsWriting Can only s → IsCircuitOfText f bytes c → IsBase only s c b →
+    CanIfRoom Can b
+base_can f Can only s bytes c b format keeps is base =
+    λ room. keeps c b base (format.kept bytes c is (subst HasRoomForNames base.same room))
+
+-- ---- texts
+
+-- a text with its report
+pub text_by : (f : Format) (Can : Circuit → Type 0) (s : ImproveSettings) (levels : LevelsAsked) (b k : Circuit)
+    (base_levels before after : ℕ) (settled : Bool) (named : List Undecided) (text report : List ℕ) →
+    IsBetterBy f s levels b k before after settled named → Can k → text ≡ f.text k → base_levels ≡ levels_of b.net →
+    report ≡ wished_report levels (gate_names k) k.net.sources before after base_levels (levels_of k.net) settled named →
+    IsTextBy f Can s levels b text report
+text_by f Can s levels b k base_levels before after settled named text report better can spells told reported = record {
+  circuit = k;
+  before = before;
+  after = after;
+  settled = settled;
+  undecided = named;
+  better = better;
+  can = can;
+  spelled = spells;
+  reported = reported ∙ ap (λ (n : ℕ). wished_report levels (gate_names k) k.net.sources before after n
+      (levels_of k.net) settled named) told;
+}
+
+pub wished : (f : Format) (Can : Circuit → Type 0) (s : ImproveSettings) (w : Wishes) (bytes text report : List ℕ)
+    (c b : Circuit) → IsFormat f Can → IsCircuitOfText f bytes c → IsBase w.only s c b →
+    IsTextBy f Can s w.levels b text report → IsWished f s w bytes text report
+wished f Can s w bytes text report c b format is base by =
+    let k = by.circuit in
+    let better = by.better in
+    let back = format.read_back k by.can in
+    let of_base : Describes is.listed.document b = describes_equivalent is.listed.document c b is.circuit.describes base.equivalent in
+    record {
+      read = is.listed;
+      said = is.said;
+      well = is.well;
+      first = c.net;
+      first_is = is.circuit.net;
+      base = b;
+      base_is = base.net;
+      base_describes = of_base;
+      circuit = k;
+      proper = better.proper;
+      model = is.circuit.model ∙ sym (ap (λ (x : Circuit). x.model) base.same) ∙ sym (ap (λ (x : Circuit). x.model) better.same);
+      describes = describes_equivalent is.listed.document b k of_base better.equivalent;
+      spelled = by.spelled;
+      over = over_if w.only s c.net b.net k.net base.net better.operators;
+      operators = better.operators;
+      again = back.listed;
+      said_again = ap f.listed by.spelled ∙ back.said;
+      well_again = back.well;
+      same = equivalent_same is.listed.document back.listed.document b k of_base back.describes better.equivalent;
+      before = by.before;
+      after = by.after;
+      settled = by.settled;
+      undecided = by.undecided;
+      reached = better.reached;
+      before_is = better.before_is;
+      after_is = better.after_is ∙ ap cost (sym back.document);
+      fewer = better.fewer;
+      reported = by.reported;
+    }
+
+-- ---- each format
+
+pub keeps_blif : (only : Bool) (s : ImproveSettings) → KeepsWriting CanWriteBlif only s
+keeps_blif only s c b base can = (base.proper, subst HasRoomForNames (sym base.same) can.1)
+
+-- the gates of what is improved have operators of the format
+gates_of : (f : Format) (only : Bool) (s : ImproveSettings) (n b : Net) → FitsFormat f s → IsBaseNet only s n b →
+    All (λ (g : Gate). f.operators g.op ≡ true) n.gates → All (λ (g : Gate). f.operators g.op ≡ true) b.gates
+gates_of f false s n b fits is all = subst (λ (m : Net). All (λ (g : Gate). f.operators g.op ≡ true) m.gates) (sym is) all
+gates_of f true s n b fits is all =
+    at_all (λ (g : Gate). f.operators g.op ≡ true) b.gates (λ j h at. fits h.op (is.each j h at))
+
+aiger_with : (only : Bool) (s : ImproveSettings) (c b : Circuit) → FitsFormat aiger_forms s → IsBase only s c b →
+    CanWriteAiger c → CanWriteAiger (with_net c b.net)
+aiger_with only s c b fits base can = record {
+  proper = subst IsProper base.same base.proper;
+  model = can.model;
+  clocks = can.clocks;
+  latches = can.latches;
+  free = can.free;
+  apart = can.apart;
+  gates = gates_of aiger_forms only s c.net b.net fits base.net can.gates;
+  sources = can.sources;
+  outputs = can.outputs;
+}
+
+pub keeps_aiger : (only : Bool) (s : ImproveSettings) → FitsFormat aiger_forms s → KeepsWriting CanWriteAiger only s
+keeps_aiger only s fits c b base can = subst CanWriteAiger (sym base.same) (aiger_with only s c b fits base can)
+
+gate_words : (gs : List Gate) → All IsGateWord gs → All HasGateWord gs
+gate_words gs all = at_all HasGateWord gs (λ j h at. λ p q a b apart. all_at IsGateWord gs j h all at)
+
+sources_same : (c b : Circuit) → IsProper c → IsProper b → b ≡ with_net c b.net → b.net.sources ≡ c.net.sources
+sources_same c b is is_b same =
+    is_b.source_count ∙ ap (λ (x : Circuit). length (sources_of x)) same ∙ sym is.source_count
+
+bench_with : (only : Bool) (s : ImproveSettings) (c b : Circuit) → FitsFormat bench_format s → IsBase only s c b →
+    CanWriteBench c → CanWriteBench (with_net c b.net)
+bench_with only s c b fits base can =
+    let words : All IsGateWord b.net.gates = gates_of bench_format only s c.net b.net fits base.net can.operators in
+    record {
+      writable = record {
+        fits = record {
+          proper = subst IsProper base.same base.proper;
+          model = can.writable.fits.model;
+          inputs = can.writable.fits.inputs;
+          outputs = can.writable.fits.outputs;
+          clocks = can.writable.fits.clocks;
+          latches = can.writable.fits.latches;
+          operators = gate_words b.net.gates words;
+          source = ⊎_elim (λ some. inl (omega (arith, some, sources_same c b can.writable.fits.proper base.proper base.same))) (λ none.
+              inr (
+                ap (λ (n : Net). n.gates) (base.bare none.0) ∙ none.0,
+                ap (λ (n : Net). n.sinks) (base.bare none.0) ∙ none.1,
+              )) can.writable.fits.source;
+        };
+        room = can.writable.room;
+      };
+      operators = words;
+    }
+
+pub keeps_bench : (only : Bool) (s : ImproveSettings) → FitsFormat bench_format s → KeepsWriting CanWriteBench only s
+keeps_bench only s fits c b base can = subst CanWriteBench (sym base.same) (bench_with only s c b fits base can)
