@@ -289,19 +289,6 @@ fn push_fault(
     }
 }
 
-/// Whether both netlists are in BLIF.
-fn are_blif(inputs: &Inputs) -> bool {
-    matches!(inputs.first_format, Subject::Blif) && matches!(inputs.second_format, Subject::Blif)
-}
-
-/// Appends the first difference of two interfaces in BLIF, and returns whether there is one to show.
-fn push_interfaces(text: &mut Vec<u8>, inputs: &Inputs) -> Result<bool, AllocError> {
-    if !are_blif(inputs) {
-        return Ok(false);
-    }
-    push_difference(text, inputs)
-}
-
 /// Appends what was expected of an input of two, or of the certificate within another, or of the only one.
 fn push_led(
     text: &mut Vec<u8>,
@@ -334,7 +321,7 @@ fn push_led(
             fault_of(fault.fields),
         );
     }
-    if fault.name == b"DifferentInterface".as_slice() && push_interfaces(text, inputs)? {
+    if fault.name == b"DifferentInterface".as_slice() && push_difference(text, inputs)? {
         return Ok(true);
     }
     push_fault(

@@ -1,29 +1,13 @@
-//! The first difference between the interfaces of two netlists in BLIF.
+//! The first difference between the interfaces of two netlists.
 
+use crate::expected::Subject;
 use crate::explaining::{Input, Inputs};
-use crate::tokens::{Separators, goes_on, next_token, without_comment};
+use crate::naming::{Latch, List, Named, is_same_name, kind_of, named, push_named, word_of};
+use crate::other_names::{aiger_names, bench_names};
+use crate::tokens::{goes_on, without_comment};
 use help_text::{Part, push_parts, push_quoted};
 use std::alloc::{AllocError, Global};
 use text_core::next_line;
-
-/// A name of an interface, and the line of its statement.
-#[derive(Clone, Copy)]
-struct Named<'a> {
-    name: &'a [u8],
-    line: u32,
-    /// Of a latch: what controls it, and its initial value; else nothing.
-    control: &'a [u8],
-    initial: &'a [u8],
-}
-
-/// Which names of an interface are compared.
-#[derive(Clone, Copy)]
-enum List {
-    Inputs,
-    Outputs,
-    Clocks,
-    Latches,
-}
 
 /// The statement that has these names.
 fn statement_of(list: List) -> &'static [u8] {
@@ -33,21 +17,6 @@ fn statement_of(list: List) -> &'static [u8] {
         List::Clocks => b".clock",
         List::Latches => b".latch",
     }
-}
-
-/// What one of these names is called.
-fn kind_of(list: List) -> &'static [u8] {
-    match list {
-        List::Inputs => b"input",
-        List::Outputs => b"output",
-        List::Clocks => b"clock",
-        List::Latches => b"latch",
-    }
-}
-
-/// The word that comes next, and the rest.
-fn word_of(line: &[u8]) -> (&[u8], &[u8]) {
-    next_token(Separators::Blanks, line)
 }
 
 /// The latch of a statement without its first word.
@@ -62,11 +31,15 @@ fn latch_of(words: &[u8], line: u32) -> Named<'_> {
     } else {
         (second, third)
     };
-    Named {
-        name,
-        line,
+    let latch = Latch {
         control,
         initial: if initial.is_empty() { b"3" } else { initial },
+    };
+    Named {
+        name,
+        number: None,
+        line,
+        latch: Some(latch),
     }
 }
 
@@ -83,20 +56,15 @@ fn push_names<'a>(
             break;
         }
         if name != b"\\".as_slice() {
-            names.push(Named {
-                name,
-                line,
-                control: b"",
-                initial: b"",
-            })?;
+            names.push(named(name, line))?;
         }
         left = rest;
     }
     Ok(())
 }
 
-/// The names of an interface in the order of the text.
-fn names_of(alloc: Global, list: List, text: &[u8]) -> Result<Vec<Named<'_>>, AllocError> {
+/// The names of an interface in BLIF, in the order of the text.
+fn blif_names(alloc: Global, list: List, text: &[u8]) -> Result<Vec<Named<'_>>, AllocError> {
     let mut names = Vec::new(alloc);
     let mut left = text;
     let mut number: u32 = 0;
@@ -122,38 +90,53 @@ fn names_of(alloc: Global, list: List, text: &[u8]) -> Result<Vec<Named<'_>>, Al
     Ok(names)
 }
 
+/// The names of an interface in a format.
+fn names_of(
+    alloc: Global,
+    format: Subject,
+    list: List,
+    text: &[u8],
+) -> Result<Vec<Named<'_>>, AllocError> {
+    match format {
+        Subject::Aiger => aiger_names(alloc, list, text),
+        Subject::Bench => bench_names(alloc, list, text),
+        _ => blif_names(alloc, list, text),
+    }
+}
+
 /// Whether a name is among some.
-fn is_among(names: &[Named], name: &[u8]) -> bool {
+fn is_among(list: List, names: &[Named], name: Named) -> bool {
     for other in names {
-        if other.name == name {
+        if is_same_name(list, *other, name) {
             return true;
         }
     }
     false
 }
 
+/// Appends where a name stands: the name of the netlist, and the line if it is known.
+fn push_where(text: &mut Vec<u8>, list: List, input: Input, name: Named) -> Result<(), AllocError> {
+    push_quoted(text, input.name)?;
+    if name.line > 0 {
+        push_parts(text, &[Part::Text(b":"), Part::Number(name.line)])?;
+    }
+    text.extend_from_slice(b": ")?;
+    push_named(text, list, name)
+}
+
 /// Appends that a name of one netlist is missing in the other, or stands at another place there.
 fn push_missing(
     text: &mut Vec<u8>,
     list: List,
-    named: Named,
+    name: Named,
     input: Input,
     other: Input,
     others: &[Named],
 ) -> Result<(), AllocError> {
-    push_quoted(text, input.name)?;
-    push_parts(
-        text,
-        &[
-            Part::Text(b":"),
-            Part::Number(named.line),
-            Part::Text(b": "),
-        ],
-    )?;
-    push_quoted(text, named.name)?;
+    push_where(text, list, input, name)?;
     text.extend_from_slice(b": ")?;
     push_quoted(text, other.name)?;
-    if is_among(others, named.name) {
+    if is_among(list, others, name) {
         push_parts(
             text,
             &[
@@ -174,41 +157,44 @@ fn push_missing(
     }
 }
 
+/// Whether what is known of two latches of one name differs.
+fn is_other_latch(one: Named, other: Named) -> bool {
+    match (one.latch, other.latch) {
+        (Some(first), Some(second)) => {
+            first.control != second.control || first.initial != second.initial
+        }
+        _ => false,
+    }
+}
+
+/// How two latches of one name differ.
+fn said_of(one: Named, other: Named) -> &'static [u8] {
+    match (one.latch, other.latch) {
+        (Some(first), Some(second)) if first.control != second.control => {
+            b": another control than in "
+        }
+        _ => b": another initial value than in ",
+    }
+}
+
 /// Appends that two latches of one name differ.
 fn push_latch(
     text: &mut Vec<u8>,
-    first: Named,
-    second: Named,
+    one: Named,
+    other: Named,
     inputs: &Inputs,
 ) -> Result<(), AllocError> {
-    push_quoted(text, inputs.second.name)?;
-    push_parts(
-        text,
-        &[
-            Part::Text(b":"),
-            Part::Number(second.line),
-            Part::Text(b": "),
-        ],
-    )?;
-    push_quoted(text, second.name)?;
-    let what: &'static [u8] = if first.control == second.control {
-        b": another initial value than in "
-    } else {
-        b": another control than in "
-    };
-    text.extend_from_slice(what)?;
+    push_where(text, List::Latches, inputs.second, other)?;
+    text.extend_from_slice(said_of(one, other))?;
     push_quoted(text, inputs.first.name)
 }
 
 /// The place of the first difference of two lists, from 0; None if there is none.
-fn first_difference(firsts: &[Named], seconds: &[Named]) -> Option<usize> {
+fn first_difference(list: List, firsts: &[Named], seconds: &[Named]) -> Option<usize> {
     for at in 0..firsts.len().max(seconds.len()) {
         match (firsts.get(at), seconds.get(at)) {
             (Some(first), Some(second)) => {
-                if first.name != second.name
-                    || first.control != second.control
-                    || first.initial != second.initial
-                {
+                if !is_same_name(list, *first, *second) || is_other_latch(*first, *second) {
                     return Some(at);
                 }
             }
@@ -227,13 +213,13 @@ fn push_list(
     inputs: &Inputs,
 ) -> Result<bool, AllocError> {
     let alloc = *text.allocator();
-    let firsts = names_of(alloc, list, first)?;
-    let seconds = names_of(alloc, list, second)?;
-    let Some(at) = first_difference(&firsts, &seconds) else {
+    let firsts = names_of(alloc, inputs.first_format, list, first)?;
+    let seconds = names_of(alloc, inputs.second_format, list, second)?;
+    let Some(at) = first_difference(list, &firsts, &seconds) else {
         return Ok(false);
     };
     match (firsts.get(at), seconds.get(at)) {
-        (Some(one), Some(other)) if one.name == other.name => {
+        (Some(one), Some(other)) if is_same_name(list, *one, *other) => {
             push_latch(text, *one, *other, inputs)?
         }
         (Some(one), _) => push_missing(text, list, *one, inputs.first, inputs.second, &seconds)?,

@@ -19,8 +19,10 @@ mod explaining;
 mod finding;
 mod interfaces;
 mod looks;
+mod naming;
 mod net_faults;
 mod netlists;
+mod other_names;
 mod tokens;
 
 pub use expected::{Subject, has_entry, has_step_entry};

@@ -212,7 +212,13 @@ const FORMATS: &[(Subject, &str, &str, &str)] = &[
         Subject::Bench,
         "error: DifferentInterface",
         GATES,
-        "a: the same inputs, outputs and clocks in the same order, and the same latches\n",
+        "b:1: b: a has no input of this name\n",
+    ),
+    (
+        Subject::Aiger,
+        "error: DifferentInterface",
+        "aag 3 2 0 1 1\n2\n4\n6\n6 4 2\ni0 a\n",
+        "a:3: i1: b has no input of this name\n",
     ),
 ];
 
