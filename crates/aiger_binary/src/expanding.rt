@@ -51,10 +51,8 @@ fn push_sections(out: &mut Vec<u8>, counts: Counts, bytes: &[u8]) -> Result<(), 
 
 /// The header's line with its LF, by the first word of the ASCII form.
 fn header_line(alloc: Global, header: FirstLine) -> Result<Vec<u8>, AllocError>
-    ensures {
-        IfOk result (λ t.
-            t.items ≡ spec.renamed (line_bytes (line_of header.entry.text.now header.entry.ended)))
-    }
+    ensures { IfOk result (λ t.
+        t.items ≡ spec.renamed (line_bytes (line_of header.entry.text.now header.entry.ended))) }
 {
     let mut line = Vec::new(alloc);
     push_line(&mut line, header.text, header.ended)?;
