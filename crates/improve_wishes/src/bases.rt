@@ -1,5 +1,5 @@
 //! What is improved: the circuit that was read, or one over the basis.
-ghost use Rattle.std.specs.Prelude.{◌≡◌, ◌≢◌, ◌⊎◌, true, false, length, IfOk};
+ghost use Rattle.std.specs.Prelude.{◌≡◌, ◌==◌, true, length, IfOk};
 ghost use Rattle.op_basis.specs.Basis.{members};
 ghost use Rattle.net_theory.specs.Circuit.{IsProper};
 ghost use Rattle.net_basis.specs.OverBasis.{IsCircuitOver};
@@ -44,19 +44,15 @@ fn gate_name(alloc: Global, circuit: &Circuit, node: u32) -> Result<Vec<u8>, All
     name_in(alloc, &names, circuit.net.sources(), node)
 }
 
-/// Whether a circuit is converted.
-fn converts(only: bool, circuit: &Circuit) -> bool
-    ensures yes { result ≡ true → (only ≡ true) × (length circuit.now.net.gates ≢ 0) }
-    ensures no { result ≡ false → (only ≡ false) ⊎ (length circuit.now.net.gates ≡ 0) }
+/// Whether a circuit has no gates.
+fn is_bare(circuit: &Circuit) -> bool
+    ensures { result ≡ (length circuit.now.net.gates == 0) }
 {
-    if !only {
-        return false;
-    }
-    !circuit.net.gates().is_empty()
+    circuit.net.gates().len() == 0
 }
 
 /// The circuit over the basis.
-#[tactic(auto, using(crate::specs::WishedLaws::converting))]
+#[tactic(auto, using(crate::specs::BasedLaws::converting))]
 fn converted(
     alloc: Global,
     circuit: Circuit,
@@ -66,10 +62,11 @@ fn converted(
     ensures base { IfOk result (λ b. IfBase b (IsCircuitOver (members settings.now.basis) circuit)) }
     ensures cannot { IfOk result (λ b. IfCannot b (IsInexpressibleBy settings.now circuit)) }
 {
-    match over_basis(alloc, circuit, settings.basis)? {
+    let found = over_basis(alloc, circuit, settings.basis)?;
+    match found {
         Converted::Over(base) => Ok(Based::Base(base)),
-        Converted::Cannot(circuit, node) => {
-            let name = gate_name(alloc, &circuit, node)?;
+        Converted::Cannot(left, node) => {
+            let name = gate_name(alloc, &left, node)?;
             Ok(Based::Cannot(name))
         }
         Converted::TooMany(_) => Ok(Based::TooMany),
@@ -77,7 +74,7 @@ fn converted(
 }
 
 /// What is improved of a circuit: the circuit itself, or with the wish for the basis and nothing else one over it.
-#[tactic(auto, using(crate::specs::WishedLaws::basing))]
+#[tactic(auto, using(crate::specs::BasedLaws::basing))]
 pub(crate) fn base_of(
     alloc: Global,
     circuit: Circuit,
@@ -89,8 +86,11 @@ pub(crate) fn base_of(
     ensures cannot { IfOk result (λ b. IfCannot b (IsInexpressibleBy settings.now circuit)) }
     ensures wish { IfOk result (λ b. IfNone b (only ≡ true)) }
 {
-    let is_converted = converts(only, &circuit);
-    if !is_converted {
+    if !only {
+        return Ok(Based::Base(circuit));
+    }
+    let bare = is_bare(&circuit);
+    if bare {
         return Ok(Based::Base(circuit));
     }
     let found = converted(alloc, circuit, settings)?;

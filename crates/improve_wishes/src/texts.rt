@@ -51,7 +51,8 @@ pub fn wished_blif<S: Solver, T: Tell>(
     // for the prover: the laws of BLIF
     blif_is_a_format();
     let circuit = read_blif(alloc, bytes)?;
-    match base_of(alloc, circuit, &settings, wishes.only)? {
+    let found = base_of(alloc, circuit, &settings, wishes.only)?;
+    match found {
         Based::Base(base) => {
             let improved = blif_text::<S, T>(alloc, base, settings, wishes.levels, tell)?;
             Ok(WishedText::Text(improved))
@@ -79,7 +80,8 @@ pub fn wished_bench<S: Solver, T: Tell>(
     // for the prover: the laws of BENCH
     bench_is_a_format();
     let circuit = read_bench(alloc, bytes)?;
-    match base_of(alloc, circuit, &settings, wishes.only)? {
+    let found = base_of(alloc, circuit, &settings, wishes.only)?;
+    match found {
         Based::Base(base) => {
             let improved = bench_text::<S, T>(alloc, base, settings, wishes.levels, tell)?;
             Ok(WishedText::Text(improved))
@@ -108,7 +110,8 @@ pub fn wished_aiger<S: Solver, T: Tell>(
     // for the prover: the laws of AIGER
     forms_are_a_format();
     let circuit = read_forms(alloc, bytes)?;
-    match base_of(alloc, circuit, &settings, wishes.only)? {
+    let found = base_of(alloc, circuit, &settings, wishes.only)?;
+    match found {
         Based::Base(base) => {
             let improved = aiger_text::<S, T>(alloc, base, settings, wishes.levels, tell)?;
             Ok(WishedText::Text(improved))
