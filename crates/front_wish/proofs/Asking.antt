@@ -1,5 +1,5 @@
 -- What words wish.
-use Rattle.std.specs.Prelude.{◌≡◌, ℕ, List, Bool, true, false, Option, Some, None, Ok, Err, IfSome, refl}
+use Rattle.std.specs.Prelude.{◌≡◌, ℕ, List, Bool, true, false, Option, Some, None, Ok, Err, refl}
 use Rattle.std.specs.Option.{option_map}
 use Rattle.std.proofs.Common.{sym, ◌∙◌, ap, subst}
 use Rattle.std.proofs.lemmas.Bool.{cond-true, cond-false}
@@ -20,14 +20,13 @@ use Rattle.settings.specs.declared.improve.ImproveSettings.{ImproveSettings}
 use Rattle.wish_names.specs.declared.wishes.Wishes.{Wishes}
 use Rattle.wish_words.specs.declared.reading.WishedWords.{WishedWords}
 use Rattle.wish_words.specs.Read.{wished_value}
-use Rattle.wish_words.specs.WishWords.{Wished, wished_in}
+use Rattle.wish_words.specs.WishWords.{wished_in}
 use Rattle.improve_windows.specs.FitsLaws.{fits_bench}
 use Rattle.improve_aiger.specs.AigerLaws.{and_set, fits_aiger}
 use Rattle.cmd_formats.specs.AigerReport.{has_and_gates}
 use Rattle.front_core.specs.Asked.{fits}
 use Rattle.front_wish.specs.declared.asking.NetAsked.{NetAsked}
-use Rattle.front_wish.specs.declared.asking.WishLine.{WishLine}
-use Rattle.front_wish.specs.WishAsked.{net_asked, format_asked, asked_in, Wish, wish_from, wish_by, with_words, wish_as, wish_on, wish_of, wish_value, IsReady}
+use Rattle.front_wish.specs.WishAsked.{net_asked, format_asked, asked_in, Wish, wish_from, wish_by, with_words, wish_as, wish_on, wish_of, IsReady}
 
 -- ---- commands
 
@@ -131,7 +130,7 @@ a_wish line plain found wished wish is some same by =
     by ∙ ap (λ (l : Line). wish_by l wished.wishes wished.aiger (command_of l.words)) same
     ∙ ap (wish_as line) (sym (ap (option_map wished_value) some) ∙ is)
 
-pub ruleset lines = (common_steps, no_wish)
+pub ruleset lines = (common_steps, no_wish, a_wish)
 
 -- ---- words
 

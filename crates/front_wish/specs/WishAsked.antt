@@ -4,7 +4,7 @@ use Rattle.command_line.specs.declared.command.Command.{Command}
 use Rattle.command_line.specs.declared.command.Command.TheVariants.{Improve}
 use Rattle.command_line.specs.declared.command.Format as asked_format
 use Rattle.command_line.specs.declared.command.Format.TheVariants as command_formats
-use Rattle.command_line.specs.CommandLine.{command_of, HasGatesOf}
+use Rattle.command_line.specs.CommandLine.{command_of}
 use Rattle.file_words.specs.Sorting.{Line, file_line}
 use Rattle.file_words.specs.Lines.{line_value}
 use Rattle.format_names.specs.declared.formats.NetFormat.{NetFormat}

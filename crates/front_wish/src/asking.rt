@@ -111,6 +111,26 @@ fn with_command(line: FileLine, wishes: Wishes, aiger: bool) -> Option<WishLine>
     })
 }
 
+/// A line with other words of its own.
+fn with_words(line: FileLine, words: Vec<String>) -> FileLine
+    ensures { line_value result ≡ spec.with_words (line_value line) (spelled words) }
+{
+    let FileLine {
+        words: _,
+        operands,
+        output,
+        certificate,
+        next,
+    } = line;
+    FileLine {
+        words,
+        operands,
+        output,
+        certificate,
+        next,
+    }
+}
+
 /// What a line wishes.
 #[tactic(auto, using(crate::proofs::Asking::lines))]
 fn wish_in(alloc: Global, line: FileLine) -> Result<Option<WishLine>, AllocError>
@@ -126,20 +146,7 @@ fn wish_in(alloc: Global, line: FileLine) -> Result<Option<WishLine>, AllocError
         aiger,
         words,
     } = wished;
-    let FileLine {
-        words: _,
-        operands,
-        output,
-        certificate,
-        next,
-    } = line;
-    let plain = FileLine {
-        words,
-        operands,
-        output,
-        certificate,
-        next,
-    };
+    let plain = with_words(line, words);
     let found = with_command(plain, wishes, aiger);
     Ok(found)
 }

@@ -1,5 +1,5 @@
 -- What is improved: a circuit itself, or one over the basis.
-use Rattle.std.specs.Prelude.{◌≡◌, ◌≢◌, ℕ, zero, suc, ◌==◌, Bool, true, false, List, [], ◌∷◌, length, refl}
+use Rattle.std.specs.Prelude.{◌≡◌, ℕ, zero, suc, ◌==◌, Bool, true, false, List, [], ◌∷◌, length, refl}
 use Rattle.std.proofs.Common.{arith, sym, ◌∙◌, ap, subst}
 use Rattle.std.proofs.lemmas.Grind.{common_steps}
 use Rattle.op_basis.specs.Basis.{members}
@@ -47,9 +47,9 @@ none_of : (n : ℕ) → (n == 0) ≡ true → n ≡ 0
 none_of zero e = refl
 none_of (suc n) e = absurd cc
 
-some_of : (n : ℕ) → (n == 0) ≡ false → n ≢ 0
-some_of zero e = absurd cc
-some_of (suc n) e = λ same. cc
+some_of : (n : ℕ) → (n == 0) ≡ false → n ≡ 0 → ⊥
+some_of zero e same = let wrong : true ≡ false = e in cc
+some_of (suc n) e same = cc
 
 pub without_gates : (only : Bool) (s : ImproveSettings) (c : Circuit) (bare : Bool) → IsProper c →
     bare ≡ (length c.net.gates == 0) → bare ≡ true → IsBase only s c c
@@ -57,7 +57,7 @@ without_gates only s c bare is test holds = bare_itself only s c is (none_of (le
 
 -- ---- a circuit over the basis
 
-base_over : (only : Bool) (s : ImproveSettings) (c b : Circuit) → only ≡ true → length c.net.gates ≢ 0 →
+base_over : (only : Bool) (s : ImproveSettings) (c b : Circuit) → only ≡ true → (length c.net.gates ≡ 0 → ⊥) →
     IsCircuitOver (members s.basis) c b → IsBase only s c b
 base_over only s c b wish some over = subst (λ (o : Bool). IsBase o s c b) (sym wish) (record {
   proper = over.proper;

@@ -86,7 +86,7 @@ pub record IsTextBy (f : Format) (Can : Circuit → Type 0) (s : ImproveSettings
   pub settled : Bool
   pub undecided : List Undecided
   pub better : IsBetterBy f s levels b circuit before after settled undecided
-  pub can : Can circuit
+  pub writes : Can circuit
   pub spelled : text ≡ f.text circuit
   pub reported : report ≡ wished_report levels (gate_names circuit) circuit.net.sources before after
       (levels_of b.net) (levels_of circuit.net) settled undecided

@@ -1,5 +1,5 @@
 -- A circuit that was improved by wishes can be written, and its text is that of a netlist which was improved so.
-use Rattle.std.specs.Prelude.{◌≡◌, ℕ, ◌≤◌, ◌≢◌, ◌⊎◌, Bool, true, false, List, [], ◌∷◌, length, All, refl}
+use Rattle.std.specs.Prelude.{◌≡◌, ℕ, ◌≤◌, Bool, true, false, List, length, All}
 use Rattle.std.proofs.Common.{arith, sym, ◌∙◌, ap, subst, inl, inr, ⊎_elim}
 use Rattle.std.proofs.lemmas.Grind.{common_steps}
 use Rattle.op_basis.specs.Basis.{members}
@@ -19,7 +19,7 @@ use Rattle.bench_core.specs.Bench.{bench_format}
 use Rattle.bench_core.specs.Writable.{HasGateWord}
 use Rattle.bench_laws.specs.Spelled.{IsGateWord, CanWriteBench}
 use Rattle.aiger_forms.specs.Forms.{aiger_forms}
-use Rattle.aiger_laws.specs.Writable.{IsAndGate, CanWriteAiger}
+use Rattle.aiger_laws.specs.Writable.{CanWriteAiger}
 use Rattle.settings.specs.declared.improve.ImproveSettings.{ImproveSettings}
 use Rattle.wish_names.specs.declared.wishes.Wishes.{Wishes}
 use Rattle.wish_names.specs.declared.wishes.LevelsAsked.{LevelsAsked}
@@ -196,7 +196,7 @@ text_by f Can s levels b k base_levels before after settled named text report be
   settled = settled;
   undecided = named;
   better = better;
-  can = can;
+  writes = can;
   spelled = spells;
   reported = reported ∙ ap (λ (n : ℕ). wished_report levels (gate_names k) k.net.sources before after n
       (levels_of k.net) settled named) told;
@@ -208,7 +208,7 @@ pub wished : (f : Format) (Can : Circuit → Type 0) (s : ImproveSettings) (w : 
 wished f Can s w bytes text report c b format is base by =
     let k = by.circuit in
     let better = by.better in
-    let back = format.read_back k by.can in
+    let back = format.read_back k by.writes in
     let of_base : Describes is.listed.document b = describes_equivalent is.listed.document c b is.circuit.describes base.equivalent in
     record {
       read = is.listed;

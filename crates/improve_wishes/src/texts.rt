@@ -1,5 +1,5 @@
 //! Texts that are improved by wishes, in each format.
-ghost use Rattle.std.specs.Prelude.{◌≡◌, ◌<◌, ◌^◌, length, IfOk, IfErr};
+ghost use Rattle.std.specs.Prelude.{◌<◌, ◌^◌, length, IfOk, IfErr};
 ghost use Rattle.net_document.specs.Format.{IsRefusedText};
 ghost use Rattle.blif_core.specs.Blif.{blif_format};
 ghost use Rattle.bench_core.specs.Bench.{bench_format};
