@@ -52,7 +52,7 @@ node_value basis n i k new g s given net at is e =
       grown_sig n.sources k.gates new (moved k.nodes g.a) given e.grown low.first,
       grown_sig n.sources k.gates new (moved k.nodes g.b) given e.grown low.second,
       moved_value n.sources (value n) (IsNodeBelow node) k g.a given is.moves (operands_known node g.a here.first),
-      moved_value n.sources (value n) (IsNodeBelow node) k g.b given is.moves (operands_known node g.b here.second)
+      moved_value n.sources (value n) (IsNodeBelow node) k g.b given is.moves (operands_known node g.b here.second),
     ) refl
     ∙ sym (values_after-gate given (n.sources + 1) i n.gates g at here)
 

@@ -1,6 +1,7 @@
 -- Sets of functions as numbers: one more member.
 use Rattle.std.proofs.Common.{◌≡◌, ◌≢◌, ℕ, zero, suc, ◌+◌, ◌*◌, ◌%◌, ◌^◌, ◌≤◌, ◌<◌, ◌==◌, ◌||◌, Bool, true, false, if◌then◌else◌, bit_or, max, refl, sym, ap, ◌∙◌, arith, ⊎_elim}
 use Rattle.std.proofs.lemmas.Bool.{cases_eq}
+use Rattle.std.proofs.lemmas.Grind.{common_steps}
 use Rattle.std.proofs.lemmas.Nat.{one_shl, le_or_l, or_of_16}
 use Rattle.std.proofs.lemmas.Nat.Bits.{bit_at_or, bit_at-lt, bit_at-zero, bit_at-pow_other}
 use Rattle.std.specs.Int.{bit_at}
@@ -36,13 +37,10 @@ grown_members set p low = ap (λ (x : ℕ). members (bit_or set x)) (one_bit p l
 pub grown_most : (set p : ℕ) → set ≤ bit_or set (1 * 2 ^ p % 2 ^ 16)
 grown_most set p = le_or_l set (1 * 2 ^ p % 2 ^ 16)
 
--- a set that lacks a function of another one is a different one
-pub risen : (a b f : ℕ) → a ≤ b → members a f ≡ false → members b f ≡ true → a < b
-risen a b f low lacks has =
-    ⊎_elim (λ (same : a ≡ b). absurd (differ (members a f) lacks (ap (λ (x : ℕ). members x f) same ∙ has))) (λ other. omega (arith, low, other)) (cases_eq a b)
-  where
-    differ : (t : Bool) → t ≡ false → t ≡ true → ⊥
-    differ t off on = cc
+pub grown_below : (set p : ℕ) → set < 65536 → p < 16 → bit_or set (1 * 2 ^ p % 2 ^ 16) < 65536
+grown_below set p low small = or_of_16 set (1 * 2 ^ p % 2 ^ 16) low (omega arith)
+
+pub ruleset growing = (common_steps, grown_members, grown_most, grown_below)
 
 -- ---- the operands
 

@@ -1,5 +1,5 @@
 -- Chains for an operator, by the functions of their steps: each function of the operands a and b is an operator.
-use Rattle.std.specs.Prelude.{◌≡◌, ℕ, ◌==◌, Bool, true, false, ◌&&◌, ◌||◌, List, [], ◌∷◌}
+use Rattle.std.specs.Prelude.{◌≡◌, ℕ, ◌==◌, Bool, true, false, not, ◌&&◌, ◌||◌, List, [], ◌∷◌}
 use Rattle.chain_theory.specs.Operator.{apply, Basis}
 use Rattle.chain_theory.specs.Value.{extended}
 use Rattle.op_basis.specs.Closed.{operator_of, every, implies}
@@ -41,6 +41,10 @@ has_all_joined basis known p = implies (basis p) (every (has_joined_on known p))
 -- The set of known functions is closed under the operators of the basis.
 abbrev pub is_closed : Basis → (ℕ → Bool) → Bool
 is_closed basis known = every (has_all_joined basis known)
+
+-- the step may be one, and makes a function that isn't known
+abbrev pub is_new : Basis → (ℕ → Bool) → Join → Bool
+is_new basis known j = may_join basis known j && not (known (function_of j))
 
 -- the step makes a function that isn't known yet
 pub record IsNewJoin (basis : Basis) (known : ℕ → Bool) (j : Join) : Type 0 where

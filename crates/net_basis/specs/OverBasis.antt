@@ -1,5 +1,5 @@
 -- Circuits over a basis: every gate has an operator of the basis.
-use Rattle.std.specs.Prelude.{◌≡◌, ℕ, ◌+◌, ◌-◌, ◌≤◌, ◌<◌, Bool, true, false, List, length, slice_get, slice_index_or, Some}
+use Rattle.std.specs.Prelude.{◌≡◌, ℕ, ◌+◌, ◌-◌, ◌*◌, ◌^◌, ◌≤◌, ◌<◌, ◌⊎◌, Bool, true, false, List, length, slice_get, slice_index_or, Some}
 use Rattle.chain_theory.specs.Operator.{Basis}
 use Rattle.net_theory.specs.declared.data.Sig.{Sig}
 use Rattle.net_theory.specs.declared.data.Gate.{Gate}
@@ -32,11 +32,16 @@ pub record BehavesAs (n m : Net) : Type 0 where
   pub equal : (i j : ℕ) (d : Sig) → i < length n.sinks → j < length n.sinks →
       slice_index_or n.sinks i d ≡ slice_index_or n.sinks j d → slice_index_or m.sinks i d ≡ slice_index_or m.sinks j d
 
+-- the most gates that take the place of one: each of them makes a function that the others don't
+abbrev pub most_for_one : ℕ
+most_for_one = 16
+
 -- m is n over the basis
 pub record IsNetOver (basis : Basis) (n m : Net) : Type 0 where
   pub behaves : BehavesAs n m
   pub operators : HaveOperatorsIn basis m.gates
   pub few : length m.gates ≤ most_gates
+  pub each_few : length m.gates ≤ most_for_one * length n.gates
 
 -- k is c over the basis: the same names, the same behaviour, and only operators of the basis
 pub record IsCircuitOver (basis : Basis) (c k : Circuit) : Type 0 where
@@ -44,6 +49,12 @@ pub record IsCircuitOver (basis : Basis) (c k : Circuit) : Type 0 where
   pub proper : IsProper k
   pub equivalent : AreEquivalentCircuits c k
   pub operators : HaveOperatorsIn basis k.net.gates
+  pub each_few : length k.net.gates ≤ most_for_one * length c.net.gates
+
+-- With as many gates for each as there may be, the net could have more than a netlist may have, or 2^31 nodes. A
+-- circuit of at most 6,250 gates, with fewer than 2,147,000,000 sources, is never refused so.
+abbrev pub MayHaveTooMany : Net → Type 0
+MayHaveTooMany n = most_gates < most_for_one * length n.gates ⊎ 2 ^ 31 ≤ n.sources + 1 + most_for_one * length n.gates
 
 -- ---- what a basis can't express
 
@@ -71,7 +82,7 @@ pub record IsInexpressibleAt (basis : Basis) (n : Net) (node : ℕ) : Type 0 whe
 abbrev pub IsNetAnswer : Basis → Net → NetOver → Type 0
 IsNetAnswer basis n (nets.Over m) = IsNetOver basis n m
 IsNetAnswer basis n (nets.Cannot node) = IsInexpressibleAt basis n node
-IsNetAnswer basis n nets.TooMany = Unit {0}
+IsNetAnswer basis n nets.TooMany = MayHaveTooMany n
 
 -- a property of the circuit over the basis
 abbrev pub IfOver : Converted → (Circuit → Type 0) → Type 0

@@ -12,7 +12,7 @@ use Rattle.net_theory.specs.MovingLaws.{Moves}
 use Rattle.net_basis.specs.declared.join.Join.{Join}
 use Rattle.net_basis.specs.declared.recipe.Recipe.{Recipe}
 use Rattle.net_basis.specs.Joins.{function_of, operands, makes, is_closed}
-use Rattle.net_basis.specs.OverBasis.{HaveOperatorsIn, IsInexpressible}
+use Rattle.net_basis.specs.OverBasis.{HaveOperatorsIn, IsInexpressible, most_for_one}
 
 -- ---- recipes
 
@@ -22,10 +22,12 @@ pub record IsClosure (basis : Basis) (known : ℕ → Bool) (joins : List Join) 
   pub second : known 5 ≡ true
   pub closed : is_closed basis known ≡ true
   pub made : (w : ℕ) → known w ≡ true → makes basis operands joins w ≡ true
+  pub few : length joins ≤ most_for_one
 
--- A recipe is made of steps that make the operator, or else the basis has none.
+-- A recipe is made of few steps that make the operator, or else the basis has none.
 pub record IsRecipe (basis : Basis) (op : ℕ) (r : Recipe) : Type 0 where
   pub made : r.is_made ≡ true → makes basis operands r.joins.items op ≡ true
+  pub few : length r.joins.items ≤ most_for_one
   pub none : r.is_made ≡ false → (op ≡ 0 → ⊥) → (op ≡ 15 → ⊥) → IsInexpressible basis op
 
 -- the recipes of the sixteen operators

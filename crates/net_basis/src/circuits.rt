@@ -3,7 +3,8 @@ ghost use Rattle.std.specs.Prelude.{◌≡◌, IfOk};
 ghost use Rattle.op_basis.specs.Basis.{members};
 ghost use Rattle.net_theory.specs.Circuit.{IsProper};
 ghost use Rattle.net_theory.specs.ExchangeLaws.{with_net as with_net_of};
-ghost use Rattle.net_basis.specs.OverBasis.{IsCircuitOver, IsInexpressibleAt, IfOver, IfCannot, IfTooMany};
+ghost use Rattle.net_basis.specs.OverBasis.{IsCircuitOver, IsInexpressibleAt, MayHaveTooMany, IfOver, IfCannot};
+ghost use Rattle.net_basis.specs.OverBasis.{IfTooMany};
 
 use crate::answer::{Converted, NetOver};
 use crate::converting::net_over;
@@ -40,7 +41,8 @@ pub fn over_basis(alloc: Global, circuit: Circuit, basis: Basis) -> Result<Conve
     ensures over { IfOk result (λ all. IfOver all (IsCircuitOver (members basis) circuit)) }
     ensures cannot { IfOk result (λ all. IfCannot all (λ left node. IsInexpressibleAt (members basis) circuit.net node)) }
     ensures kept { IfOk result (λ all. IfCannot all (λ left node. left ≡ circuit)) }
-    ensures too_many { IfOk result (λ all. IfTooMany all (λ left. left ≡ circuit)) }
+    ensures too_many { IfOk result (λ all. IfTooMany all (λ left. MayHaveTooMany circuit.net)) }
+    ensures left { IfOk result (λ all. IfTooMany all (λ left. left ≡ circuit)) }
 {
     match net_over(alloc, &circuit.net, basis)? {
         NetOver::Over(net) => Ok(Converted::Over(with_net(circuit, net))),

@@ -3,7 +3,7 @@
 ghost use Rattle.std.specs.Prelude.{◌≡◌, true, false, IfOk, IfSome, IfNone};
 ghost use Rattle.op_basis.specs.Basis.{members};
 ghost use Rattle.op_basis.specs.Closed.{every};
-ghost use Rattle.net_basis.specs.Joins.{has_joined, has_joined_on, has_all_joined, is_closed, IsNewJoin};
+ghost use Rattle.net_basis.specs.Joins.{has_joined_on, has_all_joined, is_closed, is_new as is_new_of, IsNewJoin};
 ghost use Rattle.net_basis.specs.Placing.{IsClosure};
 
 use crate::join::{Join, function_of, may_join, operands, with_function};
@@ -18,16 +18,14 @@ pub struct Closure {
 }
 
 /// Whether a step reads known functions and makes one that isn't known.
-fn is_new(basis: Basis, known: Basis, join: Join) -> bool
-    requires { members basis join.op ≡ true }
-    ensures new { result ≡ true → IsNewJoin (members basis) (members known) join }
-    ensures none { result ≡ false → has_joined (members known) join.op join.first join.second ≡ true }
+fn is_new(basis: Basis, known: Basis, join: &Join) -> bool
+    ensures { result ≡ is_new_of (members basis) (members known) join.now }
 {
     may_join(basis, known, join) && !known.contains(function_of(join))
 }
 
 /// A new step with this operator and first operand.
-#[tactic(auto, using(crate::proofs::Every::passing))]
+#[tactic(auto, using(crate::proofs::Every::passing), unfolding(crate::specs::Joins::has_joined_on))]
 fn new_second(basis: Basis, known: Basis, op: Op, first: Op) -> Option<Join>
     requires { members basis op ≡ true }
     ensures some { IfSome result (IsNewJoin (members basis) (members known)) }
@@ -39,7 +37,7 @@ fn new_second(basis: Basis, known: Basis, op: Op, first: Op) -> Option<Join>
             first,
             second: Op::new(word),
         };
-        if is_new(basis, known, join) {
+        if is_new(basis, known, &join) {
             return Some(join);
         }
     }
@@ -62,6 +60,7 @@ fn new_first(basis: Basis, known: Basis, op: Op) -> Option<Join>
 }
 
 /// A new step with this operator, if it is in the basis.
+#[tactic(auto, unfolding(crate::specs::Joins::has_all_joined))]
 fn new_with(basis: Basis, known: Basis, op: Op) -> Option<Join>
     ensures some { IfSome result (IsNewJoin (members basis) (members known)) }
     ensures none { IfNone result (has_all_joined (members basis) (members known) op ≡ true) }
@@ -93,8 +92,8 @@ pub fn closure_of(alloc: Global, basis: Basis) -> Result<Closure, AllocError>
     let mut joins = Vec::new(alloc);
     let mut known = operands();
     while let Some(join) = new_join(basis, known) {
+        known = with_function(known, function_of(&join));
         joins.push(join)?;
-        known = with_function(known, function_of(join));
     }
     Ok(Closure { known, joins })
 }

@@ -1,13 +1,12 @@
 //! The pass over the gates of a net. `nodes` maps each old node to its new signal.
-ghost use Rattle.std.specs.Prelude.{◌≡◌, ◌+◌, ◌≤◌, ◌<◌, ◌^◌, length, IfOk};
+ghost use Rattle.std.specs.Prelude.{◌≡◌, length, IfOk};
 ghost use Rattle.op_basis.specs.Basis.{members};
 ghost use Rattle.net_theory.specs.Net.{IsGateAt, end_of};
 ghost use Rattle.net_theory.specs.Moving.{sources_stay, moved_gate};
-ghost use Rattle.net_theory.specs.Limits.{most_gates};
 ghost use Rattle.net_core.specs.Marks.{nodes_of, kept};
 ghost use Rattle.net_basis.specs.OverBasis.{IsNetAnswer};
-ghost use Rattle.net_basis.specs.Placing.{AreRecipes, IsConverted};
-ghost use Rattle.net_basis.specs.Conversion.{IsPassAnswer};
+ghost use Rattle.net_basis.specs.Placing.{AreRecipes};
+ghost use Rattle.net_basis.specs.Conversion.{IsPassed, IsPassAnswer};
 
 use crate::answer::NetOver;
 use crate::expressing::{Expressed, express};
@@ -50,7 +49,7 @@ fn pass(
     requires recipes { AreRecipes (members basis) recipes.now }
     requires start { nodes_of nodes.old ≡ sources_stay net.now.sources }
     requires count { length nodes.old ≡ end_of net.now }
-    ensures { IfOk result (IsPassAnswer (members basis) net.now (kept nodes.new)) }
+    ensures answer { IfOk result (IsPassAnswer (members basis) net.now (kept nodes.new)) }
     ensures nodes { length nodes.new ≡ length nodes.old }
 {
     let sources = net.sources();
@@ -58,8 +57,8 @@ fn pass(
     let mut node = sources as usize + 1;
     let mut left = net.gates();
     while let Some((gate, rest)) = left.split_first() {
-        let gate = moved_operands(nodes, gate);
-        match express(basis, recipes, sources, &mut gates, &gate)? {
+        let mapped = moved_operands(nodes, gate);
+        match express(basis, recipes, sources, &mut gates, &mapped)? {
             Expressed::By(sig) => nodes[node] = sig,
             Expressed::Cannot => return Ok(Passed::Cannot(node as u32)),
             Expressed::TooMany => return Ok(Passed::TooMany),
@@ -71,10 +70,14 @@ fn pass(
 }
 
 /// The net of the new gates, with the sinks mapped.
-fn net_of_gates(alloc: Global, net: &Net, basis: Basis, nodes: &[Sig], gates: Vec<Gate>) -> Result<NetOver, AllocError>
-    requires converted { IsConverted (members basis) net.now (end_of net.now) (kept nodes.now gates.items) }
-    requires few { length gates.items ≤ most_gates }
-    requires room { net.now.sources + length gates.items < 2 ^ 31 }
+fn net_of_gates(
+    alloc: Global,
+    net: &Net,
+    basis: Basis,
+    nodes: &[Sig],
+    gates: Vec<Gate>,
+) -> Result<NetOver, AllocError>
+    requires passed { IsPassed (members basis) net.now (kept nodes.now gates.items) }
     requires count { length nodes.now ≡ end_of net.now }
     ensures { IfOk result (IsNetAnswer (members basis) net.now) }
 {

@@ -7,7 +7,8 @@ ghost use Rattle.net_theory.specs.Net.{IsGateAt, AreGates, sig_value, gate_value
 ghost use Rattle.net_theory.specs.Limits.{most_gates};
 ghost use Rattle.net_basis.specs.Joins.{operands, makes};
 ghost use Rattle.net_basis.specs.Placing.{AreRecipes};
-ghost use Rattle.net_basis.specs.Conversion.{has_chain, on_equal as on_equal_of, IsGateAnswer};
+ghost use Rattle.net_basis.specs.OverBasis.{most_for_one};
+ghost use Rattle.net_basis.specs.Conversion.{has_chain, on_equal as on_equal_of, MayEndAt, IsGateAnswer};
 
 use crate::placing::push_chain;
 use crate::recipe::Recipe;
@@ -33,6 +34,7 @@ pub fn has_room(sources: u32, gates: usize, more: usize) -> bool
     requires more { more < 2 ^ 62 }
     ensures nodes { result ≡ true → sources + 1 + gates + more < 2 ^ 31 }
     ensures gates { result ≡ true → gates + more ≤ most_gates }
+    ensures none { result ≡ false → more ≤ most_for_one → MayEndAt sources gates }
 {
     gates + more <= MOST_GATES as usize && (sources as usize) + 1 + gates + more < 1 << 31
 }
@@ -82,9 +84,12 @@ fn keep(
     requires gates { AreGates sources gates.old.items }
     requires gate { IsGateAt (sources + 1 + length gates.old.items) gate.now }
     requires few { vec_len gates.old ≤ most_gates }
+    requires room { sources + vec_len gates.old < 2 ^ 31 }
     requires member { members basis gate.now.op ≡ true }
     ensures answer { IfOk result (IsGateAnswer (members basis) sources gates.old.items gates.new.items gate.now) }
     ensures few { OnOk result (vec_len gates.new ≤ most_gates) }
+    ensures room { OnOk result (sources + vec_len gates.new < 2 ^ 31) }
+    ensures more { OnOk result (vec_len gates.new ≤ vec_len gates.old + most_for_one) }
 {
     if !has_room(sources, gates.len(), 1) {
         return Ok(Expressed::TooMany);
@@ -104,13 +109,17 @@ fn replace(
     gate: &Gate,
 ) -> Result<Expressed, AllocError>
     requires made { makes (members basis) operands recipe.now.joins.items op ≡ true }
+    requires steps { length recipe.now.joins.items ≤ most_for_one }
     requires value { (f : ℕ → Bool) → apply op (sig_value f gate.now.a) (sig_value f gate.now.b) ≡
         gate_value f gate.now }
     requires gates { AreGates sources gates.old.items }
     requires gate { IsGateAt (sources + 1 + length gates.old.items) gate.now }
     requires few { vec_len gates.old ≤ most_gates }
+    requires room { sources + vec_len gates.old < 2 ^ 31 }
     ensures answer { IfOk result (IsGateAnswer (members basis) sources gates.old.items gates.new.items gate.now) }
     ensures few { OnOk result (vec_len gates.new ≤ most_gates) }
+    ensures room { OnOk result (sources + vec_len gates.new < 2 ^ 31) }
+    ensures more { OnOk result (vec_len gates.new ≤ vec_len gates.old + most_for_one) }
 {
     if !has_room(sources, gates.len(), recipe.joins.len()) {
         return Ok(Expressed::TooMany);
@@ -131,8 +140,11 @@ pub fn express(
     requires gates { AreGates sources gates.old.items }
     requires gate { IsGateAt (sources + 1 + length gates.old.items) gate.now }
     requires few { vec_len gates.old ≤ most_gates }
+    requires room { sources + vec_len gates.old < 2 ^ 31 }
     ensures answer { IfOk result (IsGateAnswer (members basis) sources gates.old.items gates.new.items gate.now) }
     ensures few { OnOk result (vec_len gates.new ≤ most_gates) }
+    ensures room { OnOk result (sources + vec_len gates.new < 2 ^ 31) }
+    ensures more { OnOk result (vec_len gates.new ≤ vec_len gates.old + most_for_one) }
 {
     if basis.contains(gate.op) {
         return keep(basis, sources, gates, gate);

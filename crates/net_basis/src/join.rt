@@ -18,10 +18,10 @@ pub struct Join {
 
 /// The function of a and b that the step makes.
 #[tactic(auto, unfolding(crate::specs::Joins::joined))]
-pub fn function_of(join: Join) -> Op
-    ensures { result ≡ function_of_join join }
+pub fn function_of(join: &Join) -> Op
+    ensures { result ≡ function_of_join join.now }
 {
-    let Join { op, first, second } = join;
+    let Join { op, first, second } = *join;
     Op::with_values(
         op.apply(first.apply(false, false), second.apply(false, false)),
         op.apply(first.apply(false, true), second.apply(false, true)),
@@ -48,8 +48,8 @@ pub fn operands() -> Basis
 }
 
 /// Whether the step's operator is in the basis, and the functions that it reads are known.
-pub fn may_join(basis: Basis, known: Basis, join: Join) -> bool
-    ensures { result ≡ may_join_of (members basis) (members known) join }
+pub fn may_join(basis: Basis, known: Basis, join: &Join) -> bool
+    ensures { result ≡ may_join_of (members basis) (members known) join.now }
 {
     basis.contains(join.op) && known.contains(join.first) && known.contains(join.second)
 }
@@ -62,6 +62,11 @@ pub fn makes(basis: Basis, known: Basis, joins: &[Join], function: Op) -> bool
     let Some((join, rest)) = joins.split_first() else {
         return known.contains(function);
     };
-    may_join(basis, known, *join)
-        && makes(basis, with_function(known, function_of(*join)), rest, function)
+    may_join(basis, known, join)
+        && makes(
+            basis,
+            with_function(known, function_of(join)),
+            rest,
+            function,
+        )
 }

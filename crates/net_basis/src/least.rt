@@ -32,7 +32,7 @@ struct Listing {
 fn list_one(
     listing: &mut Listing,
     known: Basis,
-    join: Join,
+    join: &Join,
     before: usize,
 ) -> Result<(), AllocError> {
     let known = with_function(known, function_of(join));
@@ -43,9 +43,10 @@ fn list_one(
     listing.is_listed[place] = true;
     listing.all.push(Reached {
         known,
-        join,
+        join: *join,
         before,
-    })
+    })?;
+    Ok(())
 }
 
 /// Lists what steps with this operator and first operand make of the set `before`.
@@ -59,7 +60,8 @@ fn list_seconds(
     for word in 0..16u8 {
         let second = Op::new(word);
         if known.contains(second) {
-            list_one(listing, known, Join { op, first, second }, before)?;
+            let join = Join { op, first, second };
+            list_one(listing, known, &join, before)?;
         }
     }
     Ok(())

@@ -16,13 +16,13 @@ use std::alloc::AllocError;
 fn push_join(
     sources: u32,
     gates: &mut Vec<Gate>,
-    join: Join,
+    join: &Join,
     at: &mut [Sig],
 ) -> Result<(), AllocError>
     requires room { sources + 1 + vec_len gates.old < 2 ^ 31 }
     requires table { length at.old ≡ 16 }
     ensures placed { OnOk result (kept at.new gates.new.items ≡
-        with_join sources (kept at.old gates.old.items) join) }
+        with_join sources (kept at.old gates.old.items) join.now) }
     ensures count { OnOk result (vec_len gates.new ≡ vec_len gates.old + 1) }
     ensures table { length at.new ≡ length at.old }
 {
@@ -52,7 +52,7 @@ fn push_joins(
 {
     let mut left = joins;
     while let Some((join, rest)) = left.split_first() {
-        push_join(sources, gates, *join, at)?;
+        push_join(sources, gates, join, at)?;
         left = rest;
     }
     Ok(())

@@ -17,12 +17,7 @@ pub struct Recipe {
 }
 
 /// A least chain for an operator. If the search for it failed, it would be the chain of the closure.
-fn recipe(
-    alloc: Global,
-    basis: Basis,
-    all: &Closure,
-    op: Op,
-) -> Result<Recipe, AllocError>
+fn recipe_for(alloc: Global, basis: Basis, all: &Closure, op: Op) -> Result<Recipe, AllocError>
     requires { IsClosure (members basis) (members all.now.known) all.now.joins.items }
     ensures { IfOk result (IsRecipe (members basis) op) }
 {
@@ -54,7 +49,7 @@ pub fn recipes(alloc: Global, basis: Basis) -> Result<Vec<Recipe>, AllocError>
     let every = closure_of(alloc, basis)?;
     let mut all = Vec::new(alloc);
     for word in 0..16u8 {
-        let one = recipe(alloc, basis, &every, Op::new(word))?;
+        let one = recipe_for(alloc, basis, &every, Op::new(word))?;
         all.push(one)?;
     }
     Ok(all)
