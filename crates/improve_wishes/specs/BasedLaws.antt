@@ -8,7 +8,7 @@ use Rattle.net_theory.specs.Circuit.{Circuit, IsProper}
 use Rattle.settings.specs.declared.improve.ImproveSettings.{ImproveSettings}
 use Rattle.net_basis.specs.declared.answer.Converted.{Converted}
 use Rattle.net_basis.specs.declared.answer.Converted.TheVariants as circuits
-use Rattle.net_basis.specs.OverBasis.{HaveOperatorsIn, IsCircuitOver, IsInexpressibleAt, IfOver, IfCannot}
+use Rattle.net_basis.specs.OverBasis.{HaveOperatorsIn, IsCircuitOver, IsInexpressibleAt, MayHaveTooMany, IfOver, IfCannot, IfTooMany}
 use Rattle.improve_wishes.specs.declared.bases.Based.{Based}
 use Rattle.improve_wishes.specs.declared.bases.Based.TheVariants.{Base, Cannot, TooMany}
 use Rattle.improve_wishes.specs.Based.{IfBase, IfNone, IsNamed, IsInexpressibleBy}
@@ -104,4 +104,8 @@ pub left_proper : (c left : Circuit) (node : ℕ) (found : Converted) → found 
 left_proper c left node found is kept proper =
     subst IsProper (sym (subst (λ (x : Converted). IfCannot x (λ (k : Circuit) (n : ℕ). k ≡ c)) is kept)) proper
 
-pub ruleset converting = (common_steps, over_at, cannot_at, left_proper)
+pub large_at : (c left : Circuit) (found : Converted) → found ≡ circuits.TooMany left →
+    IfTooMany found (λ (k : Circuit). MayHaveTooMany c.net) → MayHaveTooMany c.net
+large_at c left found is large = subst (λ (x : Converted). IfTooMany x (λ (k : Circuit). MayHaveTooMany c.net)) is large
+
+pub ruleset converting = (common_steps, over_at, cannot_at, left_proper, large_at)

@@ -13,9 +13,10 @@ use Rattle.settings.specs.declared.improve.ImproveSettings.{ImproveSettings}
 use Rattle.wish_names.specs.declared.wishes.Wishes.{Wishes}
 use Rattle.improve_windows.specs.Improving.{FitsFormat}
 use Rattle.improve_windows.specs.ImprovingLaws.{text_proper}
+use Rattle.net_basis.specs.OverBasis.{MayHaveTooMany}
 use Rattle.improve_wishes.specs.declared.bases.Based.{Based}
 use Rattle.improve_wishes.specs.declared.bases.Based.TheVariants.{Base, Cannot, TooMany}
-use Rattle.improve_wishes.specs.Based.{IfBase, IfCannot, IfNone, IsInexpressibleBy}
+use Rattle.improve_wishes.specs.Based.{IfBase, IfCannot, IfTooMany, IfNone, IsInexpressibleBy}
 use Rattle.improve_wishes.specs.Wished.{IsBase, IsCannotExpress, IsTooLarge}
 use Rattle.improve_wishes.specs.WishedLaws.{CanIfRoom, base_can, keeps_bench, keeps_aiger}
 
@@ -54,10 +55,12 @@ cannot_express f s w bytes c found name of_text is wish by = record {
 }
 
 pub too_large : (f : Format) (w : Wishes) (bytes : List ℕ) (c : Circuit) (found : Based) → IsCircuitOfText f bytes c →
-    found ≡ TooMany → IfNone found (w.only ≡ true) → IsTooLarge f w bytes
-too_large f w bytes c found of_text is wish = record {
+    found ≡ TooMany → IfNone found (w.only ≡ true) → IfTooMany found (MayHaveTooMany c.net) → IsTooLarge f w bytes
+too_large f w bytes c found of_text is wish large = record {
   wish = subst (λ (x : Based). IfNone x (w.only ≡ true)) is wish;
-  netlist = record { listed = of_text.listed; said = of_text.said; well = of_text.well };
+  circuit = c;
+  of_text = of_text;
+  large = subst (λ (x : Based). IfTooMany x (MayHaveTooMany c.net)) is large;
 }
 
 pub ruleset texts = (common_steps, text_proper, base_proper, bench_can, aiger_can, cannot_express, too_large)

@@ -2,9 +2,9 @@
 ghost use Rattle.std.specs.Prelude.{◌≡◌, ◌==◌, true, length, IfOk};
 ghost use Rattle.op_basis.specs.Basis.{members};
 ghost use Rattle.net_theory.specs.Circuit.{IsProper};
-ghost use Rattle.net_basis.specs.OverBasis.{IsCircuitOver};
+ghost use Rattle.net_basis.specs.OverBasis.{IsCircuitOver, MayHaveTooMany};
 ghost use Rattle.improve_windows.specs.Report.{name_at};
-ghost use Rattle.improve_wishes.specs.Based.{IfBase, IfCannot, IfNone, IsNamed, IsInexpressibleBy};
+ghost use Rattle.improve_wishes.specs.Based.{IfBase, IfCannot, IfTooMany, IfNone, IsNamed, IsInexpressibleBy};
 ghost use Rattle.improve_wishes.specs.Wished.{IsBase};
 
 use net_basis::{Converted, over_basis};
@@ -19,7 +19,7 @@ pub(crate) enum Based {
     Base(Circuit),
     /// The basis can't express the gate with this name.
     Cannot(Vec<u8>),
-    /// Over the basis there would be more gates than a netlist may have.
+    /// Over the basis there may be more gates than a netlist may have.
     TooMany,
 }
 
@@ -61,6 +61,7 @@ fn converted(
     requires { IsProper circuit }
     ensures base { IfOk result (λ b. IfBase b (IsCircuitOver (members settings.now.basis) circuit)) }
     ensures cannot { IfOk result (λ b. IfCannot b (IsInexpressibleBy settings.now circuit)) }
+    ensures too_many { IfOk result (λ b. IfTooMany b (MayHaveTooMany circuit.net)) }
 {
     let found = over_basis(alloc, circuit, settings.basis)?;
     match found {
@@ -84,6 +85,7 @@ pub(crate) fn base_of(
     requires { IsProper circuit }
     ensures base { IfOk result (λ b. IfBase b (IsBase only settings.now circuit)) }
     ensures cannot { IfOk result (λ b. IfCannot b (IsInexpressibleBy settings.now circuit)) }
+    ensures too_many { IfOk result (λ b. IfTooMany b (MayHaveTooMany circuit.net)) }
     ensures wish { IfOk result (λ b. IfNone b (only ≡ true)) }
 {
     if !only {

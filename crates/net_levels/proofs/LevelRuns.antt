@@ -1,8 +1,9 @@
 -- The levels of one gate more, and the largest of one sink more.
-use Rattle.std.proofs.Common.{◌≡◌, ◌≢◌, ℕ, zero, suc, ◌+◌, ◌≤◌, ◌<◌, List, [], ◌∷◌, length, replicate, set, get_or, add-zero, refl, sym, ap, subst, ◌∙◌, arith, ⊎_elim}
+use Rattle.std.proofs.Common.{◌≡◌, ◌≢◌, ℕ, zero, suc, ◌+◌, ◌≤◌, ◌<◌, List, [], ◌∷◌, length, replicate, set, get_or, take, drop, ◌++◌, add-zero, refl, sym, ap, subst, ◌∙◌, arith, ⊎_elim}
 use Rattle.std.specs.Prelude.{max, slice_get, Some}
 use Rattle.std.proofs.lemmas.Bool.{cases_eq, cases_lt}
 use Rattle.std.proofs.lemmas.List.{get_or-set_same, get_or-set_other, get_or-replicate, get_or_past, length-replicate}
+use Rattle.std.proofs.Math.Seq.{take-append_seam}
 use Rattle.chain_theory.specs.Levels.{placed}
 use Rattle.chain_theory.specs.LevelLaws.{placed-same, placed-other}
 use Rattle.net_theory.specs.declared.data.Sig.{Sig}
@@ -70,6 +71,11 @@ nothing_is_high count first p = omega (arith, nothing_at count p)
 
 pub nothing_yet : (count : ℕ) → row_levels (replicate count 0) ≡ (λ (p : ℕ). 0)
 nothing_yet count = λ i p. nothing_at count p i
+
+-- a row after a loan of all of it
+pub lent_row : (new old : List ℕ) (len : ℕ) → len ≡ length new → row_levels (take len (new ++ drop (length new) old)) ≡ row_levels new
+lent_row new old len e =
+    ap (λ (k : ℕ). row_levels (take k (new ++ drop (length new) old))) e ∙ ap row_levels (take-append_seam new (drop (length new) old))
 
 -- ---- sinks
 

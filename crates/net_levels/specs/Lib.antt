@@ -1,2 +1,4 @@
 pub mod Levels
 pub mod LevelRows
+pub mod LevelLaws
+pub mod CleanupLaws

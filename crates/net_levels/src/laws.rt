@@ -3,6 +3,7 @@ ghost use Rattle.std.specs.Prelude.{◌≡◌, ℕ, ◌+◌, ◌≤◌, slice_ge
 ghost use Rattle.net_theory.specs.declared.data.Gate.{Gate};
 ghost use Rattle.net_theory.specs.declared.data.Sig.{Sig};
 ghost use Rattle.net_theory.specs.Net.{Net, IsNet};
+ghost use Rattle.net_theory.specs.Dangling.{cleanup};
 ghost use Rattle.net_levels.specs.Levels.{sig_level, gate_level, level, levels_of};
 
 /// A source has the level 0, and a gate one more than the larger of its operands' levels. No sink's level is above the
@@ -14,4 +15,9 @@ pub fn levels_of_nodes()
     ensures sink { (n : Net) (i : ℕ) (s : Sig) → slice_get n.sinks i ≡ Some s → sig_level (level n) s ≤ levels_of n }
     ensures least { (n : Net) (d : ℕ) →
         ((i : ℕ) (s : Sig) → slice_get n.sinks i ≡ Some s → sig_level (level n) s ≤ d) → levels_of n ≤ d }
+{}
+
+/// Removing the dangling gates keeps the levels.
+pub fn cleanup_keeps_levels()
+    ensures { (n : Net) → IsNet n → levels_of (cleanup n) ≡ levels_of n }
 {}
