@@ -9,7 +9,7 @@ ghost use Rattle.improve_windows.specs.Improving.{FitsFormat};
 ghost use Rattle.improve_wishes.specs.Texts.{IsWishedText};
 
 use crate::bases::{Based, base_of};
-use crate::writing::{aiger_text, bench_text, blif_text};
+use crate::writing::{aiger_of, bench_of, blif_of};
 use aiger_forms::{forms_are_a_format, read_forms};
 use bench_core::read_bench;
 use bench_laws::bench_is_a_format;
@@ -54,7 +54,7 @@ pub fn wished_blif<S: Solver, T: Tell>(
     let found = base_of(alloc, circuit, &settings, wishes.only)?;
     match found {
         Based::Base(base) => {
-            let improved = blif_text::<S, T>(alloc, base, settings, wishes.levels, tell)?;
+            let improved = blif_of::<S, T>(alloc, base, settings, wishes.levels, tell)?;
             Ok(WishedText::Text(improved))
         }
         Based::Cannot(name) => Ok(WishedText::Cannot(name)),
@@ -83,7 +83,7 @@ pub fn wished_bench<S: Solver, T: Tell>(
     let found = base_of(alloc, circuit, &settings, wishes.only)?;
     match found {
         Based::Base(base) => {
-            let improved = bench_text::<S, T>(alloc, base, settings, wishes.levels, tell)?;
+            let improved = bench_of::<S, T>(alloc, base, settings, wishes.levels, tell)?;
             Ok(WishedText::Text(improved))
         }
         Based::Cannot(name) => Ok(WishedText::Cannot(name)),
@@ -113,7 +113,7 @@ pub fn wished_aiger<S: Solver, T: Tell>(
     let found = base_of(alloc, circuit, &settings, wishes.only)?;
     match found {
         Based::Base(base) => {
-            let improved = aiger_text::<S, T>(alloc, base, settings, wishes.levels, tell)?;
+            let improved = aiger_of::<S, T>(alloc, base, settings, wishes.levels, tell)?;
             Ok(WishedText::Text(improved))
         }
         Based::Cannot(name) => Ok(WishedText::Cannot(name)),

@@ -66,7 +66,7 @@ fn bench_text_of(
 }
 
 /// The BLIF text of a circuit that is improved, and its report.
-pub(crate) fn blif_text<S: Solver, T: Tell>(
+pub(crate) fn blif_of<S: Solver, T: Tell>(
     alloc: Global,
     base: Circuit,
     settings: ImproveSettings,
@@ -85,7 +85,7 @@ pub(crate) fn blif_text<S: Solver, T: Tell>(
 }
 
 /// The BENCH text of a circuit that is improved, and its report.
-pub(crate) fn bench_text<S: Solver, T: Tell>(
+pub(crate) fn bench_of<S: Solver, T: Tell>(
     alloc: Global,
     base: Circuit,
     settings: ImproveSettings,
@@ -109,7 +109,7 @@ pub(crate) fn bench_text<S: Solver, T: Tell>(
 }
 
 /// The AIGER text of a circuit that is improved, in the ASCII form, and its report.
-pub(crate) fn aiger_text<S: Solver, T: Tell>(
+pub(crate) fn aiger_of<S: Solver, T: Tell>(
     alloc: Global,
     base: Circuit,
     settings: ImproveSettings,

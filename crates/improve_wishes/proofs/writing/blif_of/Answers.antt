@@ -2,7 +2,7 @@ use Rattle.std.proofs.Common.{ap, ◌∙◌}
 use Rattle.blif_core.specs.Spelling.{spelled}
 use Rattle.blif_core.specs.Blif.{blif_format, CanWriteBlif}
 use Rattle.improve_wishes.specs.WishedLaws.{text_by}
-use Rattle.improve_wishes.proofs.writing.blif_text.Goals as goal
+use Rattle.improve_wishes.proofs.writing.blif_of.Goals as goal
 
 pub returns : goal.returns
 returns g c =

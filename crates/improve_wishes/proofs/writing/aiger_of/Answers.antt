@@ -2,7 +2,7 @@ use Rattle.aiger_forms.specs.Forms.{aiger_forms}
 use Rattle.aiger_laws.specs.Writable.{CanWriteAiger}
 use Rattle.blif_core.specs.Blif.{blif_format}
 use Rattle.improve_wishes.specs.WishedLaws.{writable, better_counted, text_by}
-use Rattle.improve_wishes.proofs.writing.aiger_text.Goals as goal
+use Rattle.improve_wishes.proofs.writing.aiger_of.Goals as goal
 
 pub costed_text-requires : goal.costed_text-requires
 costed_text-requires g c =

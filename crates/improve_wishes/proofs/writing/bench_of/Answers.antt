@@ -2,7 +2,7 @@ use Rattle.bench_core.specs.Bench.{bench_format}
 use Rattle.bench_laws.specs.Spelled.{CanWriteBench}
 use Rattle.blif_core.specs.Blif.{blif_format}
 use Rattle.improve_wishes.specs.WishedLaws.{writable, better_as, text_by}
-use Rattle.improve_wishes.proofs.writing.bench_text.Goals as goal
+use Rattle.improve_wishes.proofs.writing.bench_of.Goals as goal
 
 pub bench_text_of-requires-clause-fits : goal.bench_text_of-requires-clause-fits
 bench_text_of-requires-clause-fits g c =
