@@ -1,6 +1,5 @@
 //! The report, with a line of levels.
-ghost use Rattle.std.specs.Prelude.{◌≡◌, ◌≤◌, ◌++◌, length, All, IfOk};
-ghost use Rattle.std.proofs.Common.{drop};
+ghost use Rattle.std.specs.Prelude.{◌≡◌, ◌≤◌, ◌++◌, length, drop, All, IfOk};
 ghost use Rattle.net_theory.specs.Circuit.{IsProper};
 ghost use Rattle.net_theory.specs.Naming.{gate_names as gate_names_of};
 ghost use Rattle.net_levels.specs.Levels.{levels_of};
