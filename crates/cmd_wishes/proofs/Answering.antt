@@ -30,7 +30,7 @@ use Rattle.frame_core.specs.Reported.{Reply, Refusal}
 use Rattle.frame_core.specs.Task.{HasReply, Refuses}
 use Rattle.cmd_improve.specs.ImproveReport.{improve_reply, improve_refusal}
 use Rattle.cmd_improve.specs.NamedReport.{Empty, Faulty, empty_refusal}
-use Rattle.cmd_wishes.specs.WishReport.{wants_binary, plain_text, IsInForm, Improved, CannotExpress, TooLarge, IsAnswer, wished_task}
+use Rattle.cmd_wishes.specs.WishReport.{wants_binary, IsInForm, Improved, CannotExpress, TooLarge, IsAnswer, wished_task}
 use Rattle.cmd_wishes.specs.Replies.{StandsFor, IsReplyOf}
 
 -- ---- the text of an improved netlist

@@ -37,7 +37,8 @@ netlist_of : (format : NetFormat) (settings : ImproveSettings) (w : Wishes) (byt
 netlist_of format settings w bytes (Improved i) is = record { listed = is.0.read; said = is.0.said; well = is.0.well }
 netlist_of format settings w bytes (CannotExpress name) is =
     record { listed = is.of_text.listed; said = is.of_text.said; well = is.of_text.well }
-netlist_of format settings w bytes TooLarge is = is.netlist
+netlist_of format settings w bytes TooLarge is =
+    record { listed = is.of_text.listed; said = is.of_text.said; well = is.of_text.well }
 
 apart : (format : NetFormat) (settings : ImproveSettings) (w : Wishes) (bytes : List ℕ) (answer : WishAnswer)
     (fault : NamedFault) → IsWishAnswer format settings w bytes answer → HasWishFault format bytes fault → ⊥

@@ -1,5 +1,5 @@
 -- What words wish.
-use Rattle.std.specs.Prelude.{◌≡◌, ℕ, List, Bool, true, false, Option, Some, None, Ok, Err, IfSome, refl}
+use Rattle.std.specs.Prelude.{◌≡◌, ℕ, List, Bool, true, false, Option, Some, None, Ok, Err, refl}
 use Rattle.std.specs.Option.{option_map}
 use Rattle.std.proofs.Common.{sym, ◌∙◌, ap, subst}
 use Rattle.std.proofs.lemmas.Bool.{cond-true, cond-false}
@@ -7,9 +7,10 @@ use Rattle.std.proofs.lemmas.Grind.{common_steps}
 use Rattle.op_basis.specs.Text.{bench_set}
 use Rattle.command_line.specs.declared.command.Command.{Command}
 use Rattle.command_line.specs.declared.command.Command.TheVariants.{Agree, Recheck, RecheckDepth, Synth, LeastDepth, Improve, Equiv, Gen}
+use Rattle.command_line.specs.declared.command.Format as asked_format
 use Rattle.command_line.specs.declared.command.Format.TheVariants as command_formats
 use Rattle.command_line.specs.declared.command.WordsError.{WordsError}
-use Rattle.command_line.specs.CommandLine.{command_of, or_usage, read, spelled, IsAskable}
+use Rattle.command_line.specs.CommandLine.{command_of, or_usage, read, spelled, IsAsked, IsAskable}
 use Rattle.command_line.specs.WithinLaws.{within_members}
 use Rattle.file_words.specs.declared.line.FileLine.{FileLine}
 use Rattle.file_words.specs.Sorting.{Line, file_line}
@@ -19,14 +20,13 @@ use Rattle.settings.specs.declared.improve.ImproveSettings.{ImproveSettings}
 use Rattle.wish_names.specs.declared.wishes.Wishes.{Wishes}
 use Rattle.wish_words.specs.declared.reading.WishedWords.{WishedWords}
 use Rattle.wish_words.specs.Read.{wished_value}
-use Rattle.wish_words.specs.WishWords.{Wished, wished_in}
+use Rattle.wish_words.specs.WishWords.{wished_in}
 use Rattle.improve_windows.specs.FitsLaws.{fits_bench}
 use Rattle.improve_aiger.specs.AigerLaws.{and_set, fits_aiger}
 use Rattle.cmd_formats.specs.AigerReport.{has_and_gates}
 use Rattle.front_core.specs.Asked.{fits}
 use Rattle.front_wish.specs.declared.asking.NetAsked.{NetAsked}
-use Rattle.front_wish.specs.declared.asking.WishLine.{WishLine}
-use Rattle.front_wish.specs.WishAsked.{net_asked, asked_in, Wish, wish_from, wish_by, with_words, wish_as, wish_on, wish_of, wish_value, IsReady}
+use Rattle.front_wish.specs.WishAsked.{net_asked, format_asked, asked_in, Wish, wish_from, wish_by, with_words, wish_as, wish_on, wish_of, IsReady}
 
 -- ---- commands
 
@@ -53,24 +53,26 @@ ready_if : (b : Bool) (n asked : NetAsked) → (b ≡ true → IsReady asked.for
 ready_if true n asked is e = ready_at n asked e (is refl)
 ready_if false n asked is e = none_some n e
 
--- The settings of a command are in their ranges, and its basis fits the format.
-ready_of : (aiger : Bool) (c : Command) (n : NetAsked) → IsAskable c → asked_in aiger c ≡ Some n → IsReady n.format n.settings
-ready_of false (Improve command_formats.Blif s) n is e = ready_at n (net_asked Blif s) e (is.range, λ op has. refl)
-ready_of false (Improve command_formats.Bench s) n is e =
-    ready_at n (net_asked Bench s) e (is.range, fits_bench s (within_members s.basis bench_set is.basis))
-ready_of true (Improve command_formats.Blif s) n is e =
+-- The settings of `improve` are in their ranges, and its basis fits the format.
+ready_format : (format : asked_format.Format) (aiger : Bool) (s : ImproveSettings) (n : NetAsked) → IsAsked format s →
+    format_asked format aiger s ≡ Some n → IsReady n.format n.settings
+ready_format command_formats.Blif false s n is e = ready_at n (net_asked Blif s) e (is.range, λ op has. refl)
+ready_format command_formats.Blif true s n is e =
     ready_if (has_and_gates s.basis) n (net_asked Aiger s)
     (λ has. (is.range, fits_aiger s (within_members s.basis and_set has))) e
-ready_of true (Improve command_formats.Bench s) n is e = none_some n e
-ready_of aiger Agree n is e = none_some n e
-ready_of aiger Recheck n is e = none_some n e
-ready_of aiger RecheckDepth n is e = none_some n e
-ready_of aiger (Synth s) n is e = none_some n e
-ready_of aiger (LeastDepth s) n is e = none_some n e
-ready_of aiger (Equiv budget) n is e = none_some n e
-ready_of aiger (Gen blocks action) n is e = none_some n e
+ready_format command_formats.Bench false s n is e =
+    ready_at n (net_asked Bench s) e (is.range, fits_bench s (within_members s.basis bench_set is.basis))
+ready_format command_formats.Bench true s n is e = none_some n e
 
-pub ruleset commands = (common_steps)
+ready_of : (c : Command) (aiger : Bool) (n : NetAsked) → IsAskable c → asked_in c aiger ≡ Some n → IsReady n.format n.settings
+ready_of (Improve format s) aiger n is e = ready_format format aiger s n is e
+ready_of Agree aiger n is e = none_some n e
+ready_of Recheck aiger n is e = none_some n e
+ready_of RecheckDepth aiger n is e = none_some n e
+ready_of (Synth s) aiger n is e = none_some n e
+ready_of (LeastDepth s) aiger n is e = none_some n e
+ready_of (Equiv budget) aiger n is e = none_some n e
+ready_of (Gen blocks action) aiger n is e = none_some n e
 
 -- ---- a line without wishes
 
@@ -85,32 +87,32 @@ command_read line wishes aiger c is = ap (wish_by line wishes aiger) (sym (usage
 pub unfit : (line : Line) (wishes : Wishes) (aiger : Bool) (c : Command) (fit : Bool) → Ok c ≡ read line.words →
     fit ≡ fits c line → fit ≡ false → None ≡ wish_by line wishes aiger (command_of line.words)
 unfit line wishes aiger c fit is test isnt =
-    sym (cond-false (fits c line) (wish_from line wishes (asked_in aiger c)) None (sym test ∙ isnt))
+    sym (cond-false (fits c line) (wish_from line wishes (asked_in c aiger)) None (sym test ∙ isnt))
     ∙ command_read line wishes aiger c is
 
 fitting : (line : Line) (wishes : Wishes) (aiger : Bool) (c : Command) (fit : Bool) (found : Option NetAsked) →
-    Ok c ≡ read line.words → fit ≡ fits c line → fit ≡ true → found ≡ asked_in aiger c →
+    Ok c ≡ read line.words → fit ≡ fits c line → fit ≡ true → found ≡ asked_in c aiger →
     wish_from line wishes found ≡ wish_by line wishes aiger (command_of line.words)
 fitting line wishes aiger c fit found is test holds asked =
     ap (wish_from line wishes) asked
-    ∙ sym (cond-true (fits c line) (wish_from line wishes (asked_in aiger c)) None (sym test ∙ holds))
+    ∙ sym (cond-true (fits c line) (wish_from line wishes (asked_in c aiger)) None (sym test ∙ holds))
     ∙ command_read line wishes aiger c is
 
 pub unasked : (line : Line) (wishes : Wishes) (aiger : Bool) (c : Command) (fit : Bool) (found : Option NetAsked) →
-    Ok c ≡ read line.words → fit ≡ fits c line → fit ≡ true → found ≡ asked_in aiger c → found ≡ None →
+    Ok c ≡ read line.words → fit ≡ fits c line → fit ≡ true → found ≡ asked_in c aiger → found ≡ None →
     None ≡ wish_by line wishes aiger (command_of line.words)
 unasked line wishes aiger c fit found is test holds asked none =
     sym (ap (wish_from line wishes) none) ∙ fitting line wishes aiger c fit found is test holds asked
 
 pub asked : (line : Line) (wishes : Wishes) (aiger : Bool) (c : Command) (fit : Bool) (found : Option NetAsked)
-    (n : NetAsked) → Ok c ≡ read line.words → fit ≡ fits c line → fit ≡ true → found ≡ asked_in aiger c →
+    (n : NetAsked) → Ok c ≡ read line.words → fit ≡ fits c line → fit ≡ true → found ≡ asked_in c aiger →
     found ≡ Some n → wish_from line wishes (Some n) ≡ wish_by line wishes aiger (command_of line.words)
 asked line wishes aiger c fit found n is test holds same some =
     sym (ap (wish_from line wishes) some) ∙ fitting line wishes aiger c fit found is test holds same
 
 pub ready : (aiger : Bool) (c : Command) (found : Option NetAsked) (n : NetAsked) → IsAskable c →
-    found ≡ asked_in aiger c → found ≡ Some n → IsReady n.format n.settings
-ready aiger c found n can same some = ready_of aiger c n can (sym same ∙ some)
+    found ≡ asked_in c aiger → found ≡ Some n → IsReady n.format n.settings
+ready aiger c found n can same some = ready_of c aiger n can (sym same ∙ some)
 
 pub ruleset asking = (common_steps, unread, unfit, unasked, asked, ready)
 
@@ -128,7 +130,7 @@ a_wish line plain found wished wish is some same by =
     by ∙ ap (λ (l : Line). wish_by l wished.wishes wished.aiger (command_of l.words)) same
     ∙ ap (wish_as line) (sym (ap (option_map wished_value) some) ∙ is)
 
-pub ruleset lines = (common_steps, no_wish)
+pub ruleset lines = (common_steps, no_wish, a_wish)
 
 -- ---- words
 

@@ -1,5 +1,5 @@
 -- How a run ends that improves a netlist by wishes.
-use Rattle.std.specs.Prelude.{◌≡◌, ℕ, List, [], Option, Some, None}
+use Rattle.std.specs.Prelude.{◌≡◌, ℕ, List, [], Option}
 use Rattle.std.proofs.Common.{subst}
 use Rattle.std.proofs.lemmas.Grind.{common_steps}
 use Rattle.format_names.specs.declared.formats.NetFormat.{NetFormat}

@@ -4,7 +4,7 @@ use Rattle.command_line.specs.declared.command.Command.{Command}
 use Rattle.command_line.specs.declared.command.Command.TheVariants.{Improve}
 use Rattle.command_line.specs.declared.command.Format as asked_format
 use Rattle.command_line.specs.declared.command.Format.TheVariants as command_formats
-use Rattle.command_line.specs.CommandLine.{command_of, HasGatesOf}
+use Rattle.command_line.specs.CommandLine.{command_of}
 use Rattle.file_words.specs.Sorting.{Line, file_line}
 use Rattle.file_words.specs.Lines.{line_value}
 use Rattle.format_names.specs.declared.formats.NetFormat.{NetFormat}
@@ -33,12 +33,16 @@ abbrev pub net_asked : NetFormat → ImproveSettings → NetAsked
 net_asked format settings = record { format = format; settings = settings }
 
 -- AIGER has the words of BLIF, over the operators of its gates.
-abbrev pub asked_in : Bool → Command → Option NetAsked
-asked_in false (Improve command_formats.Blif settings) = Some (net_asked Blif settings)
-asked_in false (Improve command_formats.Bench settings) = Some (net_asked Bench settings)
-asked_in true (Improve command_formats.Blif settings) =
+abbrev pub format_asked : asked_format.Format → Bool → ImproveSettings → Option NetAsked
+format_asked command_formats.Blif false settings = Some (net_asked Blif settings)
+format_asked command_formats.Blif true settings =
     if has_and_gates settings.basis then Some (net_asked Aiger settings) else None
-asked_in aiger command = None
+format_asked command_formats.Bench false settings = Some (net_asked Bench settings)
+format_asked command_formats.Bench true settings = None
+
+abbrev pub asked_in : Command → Bool → Option NetAsked
+asked_in (Improve format settings) aiger = format_asked format aiger settings
+asked_in command aiger = None
 
 -- ---- words
 
@@ -50,7 +54,7 @@ wish_from line wishes (Some asked) =
 abbrev pub wish_by : Line → Wishes → Bool → Option Command → Option Wish
 wish_by line wishes aiger None = None
 wish_by line wishes aiger (Some command) =
-    if fits command line then wish_from line wishes (asked_in aiger command) else None
+    if fits command line then wish_from line wishes (asked_in command aiger) else None
 
 abbrev pub with_words : Line → List (List ℕ) → Line
 with_words line words = record line { words = words }

@@ -36,9 +36,9 @@ pub struct WishLine {
     pub wishes: Wishes,
 }
 
-/// The operators of AIGER for these settings, if they have no others.
+/// `improve` of AIGER; None if AIGER can't express an operator.
 fn aiger_asked(settings: ImproveSettings) -> Option<NetAsked>
-    ensures { result ≡ spec.asked_in true (Command.Improve Format.Blif settings) }
+    ensures { result ≡ spec.format_asked Format.Blif true settings }
 {
     if !has_and_gates(settings.basis) {
         return None;
@@ -49,9 +49,9 @@ fn aiger_asked(settings: ImproveSettings) -> Option<NetAsked>
     })
 }
 
-/// What a format of the command line asks for.
-fn format_asked(aiger: bool, format: Format, settings: ImproveSettings) -> Option<NetAsked>
-    ensures { result ≡ spec.asked_in aiger (Command.Improve format settings) }
+/// `improve` of a netlist whose words name this format, or name none where it is in AIGER.
+fn format_asked(format: Format, aiger: bool, settings: ImproveSettings) -> Option<NetAsked>
+    ensures { result ≡ spec.format_asked format aiger settings }
 {
     match format {
         Format::Blif => {
@@ -76,12 +76,11 @@ fn format_asked(aiger: bool, format: Format, settings: ImproveSettings) -> Optio
 }
 
 /// The netlist that a command asks to improve; None if it is another command, or AIGER can't express an operator.
-#[tactic(auto, using(crate::proofs::Asking::commands))]
-fn asked_in(aiger: bool, command: &Command) -> Option<NetAsked>
-    ensures { result ≡ spec.asked_in aiger command.now }
+fn asked_in(command: &Command, aiger: bool) -> Option<NetAsked>
+    ensures { result ≡ spec.asked_in command.now aiger }
 {
     match command {
-        Command::Improve { format, settings } => format_asked(aiger, *format, *settings),
+        Command::Improve { format, settings } => format_asked(*format, aiger, *settings),
         Command::Agree | Command::Recheck | Command::RecheckDepth => None,
         Command::Synth(_) | Command::LeastDepth(_) => None,
         Command::Equiv(_) | Command::Gen { .. } => None,
@@ -101,7 +100,7 @@ fn with_command(line: FileLine, wishes: Wishes, aiger: bool) -> Option<WishLine>
     if !fits(&command, &line) {
         return None;
     }
-    let Some(asked) = asked_in(aiger, &command) else {
+    let Some(asked) = asked_in(&command, aiger) else {
         return None;
     };
     Some(WishLine {
@@ -110,6 +109,26 @@ fn with_command(line: FileLine, wishes: Wishes, aiger: bool) -> Option<WishLine>
         settings: asked.settings,
         wishes,
     })
+}
+
+/// A line with other words of its own.
+fn with_words(line: FileLine, words: Vec<String>) -> FileLine
+    ensures { line_value result ≡ spec.with_words (line_value line) (spelled words) }
+{
+    let FileLine {
+        words: _,
+        operands,
+        output,
+        certificate,
+        next,
+    } = line;
+    FileLine {
+        words,
+        operands,
+        output,
+        certificate,
+        next,
+    }
 }
 
 /// What a line wishes.
@@ -127,20 +146,7 @@ fn wish_in(alloc: Global, line: FileLine) -> Result<Option<WishLine>, AllocError
         aiger,
         words,
     } = wished;
-    let FileLine {
-        words: _,
-        operands,
-        output,
-        certificate,
-        next,
-    } = line;
-    let plain = FileLine {
-        words,
-        operands,
-        output,
-        certificate,
-        next,
-    };
+    let plain = with_words(line, words);
     let found = with_command(plain, wishes, aiger);
     Ok(found)
 }

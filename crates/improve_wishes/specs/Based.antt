@@ -23,6 +23,11 @@ IfCannot TooMany P = Unit {0}
 abbrev pub IsNamed : Circuit → ℕ → List ℕ → Type 0
 IsNamed c node name = name ≡ name_at (gate_names c) c.net.sources node
 
+abbrev pub IfTooMany : Based → Type 0 → Type 0
+IfTooMany (Base b) P = Unit {0}
+IfTooMany (Cannot name) P = Unit {0}
+IfTooMany TooMany P = P
+
 -- there is nothing to improve
 abbrev pub IfNone : Based → Type 0 → Type 0
 IfNone (Base b) P = Unit {0}

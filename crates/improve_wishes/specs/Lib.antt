@@ -1,4 +1,5 @@
 pub mod Based
+pub mod BasedLaws
 pub mod LevelsReport
 pub mod TellingLaws
 pub mod TextLaws

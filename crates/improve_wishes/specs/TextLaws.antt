@@ -1,8 +1,10 @@
 -- The texts of each format.
-use Rattle.std.specs.Prelude.{◌≡◌, ℕ, Bool, true, List, Result, Ok, Err}
+use Rattle.std.specs.Prelude.{◌≡◌, ℕ, Bool, true, List, Vec}
+use Rattle.std.specs.Global.{Global}
+use Rattle.std.proofs.Common.{subst}
 use Rattle.std.proofs.lemmas.Grind.{common_steps}
 use Rattle.net_theory.specs.Circuit.{Circuit, IsProper}
-use Rattle.net_document.specs.Format.{Format, IsNetlist, IsCircuitOfText, IsFormat}
+use Rattle.net_document.specs.Format.{Format, IsCircuitOfText, IsFormat}
 use Rattle.bench_core.specs.Bench.{bench_format}
 use Rattle.bench_laws.specs.Spelled.{CanWriteBench}
 use Rattle.aiger_forms.specs.Forms.{aiger_forms}
@@ -11,34 +13,54 @@ use Rattle.settings.specs.declared.improve.ImproveSettings.{ImproveSettings}
 use Rattle.wish_names.specs.declared.wishes.Wishes.{Wishes}
 use Rattle.improve_windows.specs.Improving.{FitsFormat}
 use Rattle.improve_windows.specs.ImprovingLaws.{text_proper}
-use Rattle.improve_wishes.specs.Based.{IsInexpressibleBy}
+use Rattle.net_basis.specs.OverBasis.{MayHaveTooMany}
+use Rattle.improve_wishes.specs.declared.bases.Based.{Based}
+use Rattle.improve_wishes.specs.declared.bases.Based.TheVariants.{Base, Cannot, TooMany}
+use Rattle.improve_wishes.specs.Based.{IfBase, IfCannot, IfTooMany, IfNone, IsInexpressibleBy}
 use Rattle.improve_wishes.specs.Wished.{IsBase, IsCannotExpress, IsTooLarge}
 use Rattle.improve_wishes.specs.WishedLaws.{CanIfRoom, base_can, keeps_bench, keeps_aiger}
 
-pub base_proper : (only : Bool) (s : ImproveSettings) (c b : Circuit) → IsBase only s c b → IsProper b
-base_proper only s c b is = is.proper
+-- ---- what was found
 
-pub bench_can : (only : Bool) (s : ImproveSettings) (bytes : List ℕ) (c b : Circuit) →
+pub base_at : (only : Bool) (s : ImproveSettings) (c b : Circuit) (found : Based) → found ≡ Base b →
+    IfBase found (IsBase only s c) → IsBase only s c b
+base_at only s c b found is has = subst (λ (x : Based). IfBase x (IsBase only s c)) is has
+
+pub base_proper : (only : Bool) (s : ImproveSettings) (c b : Circuit) (found : Based) → found ≡ Base b →
+    IfBase found (IsBase only s c) → IsProper b
+base_proper only s c b found is has = (base_at only s c b found is has).proper
+
+pub bench_can : (only : Bool) (s : ImproveSettings) (bytes : List ℕ) (c b : Circuit) (found : Based) →
     IsFormat bench_format CanWriteBench → FitsFormat bench_format s → IsCircuitOfText bench_format bytes c →
-    IsBase only s c b → CanIfRoom CanWriteBench b
-bench_can only s bytes c b format fits is base =
-    base_can bench_format CanWriteBench only s bytes c b format (keeps_bench only s fits) is base
+    found ≡ Base b → IfBase found (IsBase only s c) → CanIfRoom CanWriteBench b
+bench_can only s bytes c b found format fits of_text is has =
+    base_can bench_format CanWriteBench only s bytes c b format (keeps_bench only s fits) of_text (base_at only s c b found is has)
 
-pub aiger_can : (only : Bool) (s : ImproveSettings) (bytes : List ℕ) (c b : Circuit) →
+pub aiger_can : (only : Bool) (s : ImproveSettings) (bytes : List ℕ) (c b : Circuit) (found : Based) →
     IsFormat aiger_forms CanWriteAiger → FitsFormat aiger_forms s → IsCircuitOfText aiger_forms bytes c →
-    IsBase only s c b → CanIfRoom CanWriteAiger b
-aiger_can only s bytes c b format fits is base =
-    base_can aiger_forms CanWriteAiger only s bytes c b format (keeps_aiger only s fits) is base
+    found ≡ Base b → IfBase found (IsBase only s c) → CanIfRoom CanWriteAiger b
+aiger_can only s bytes c b found format fits of_text is has =
+    base_can aiger_forms CanWriteAiger only s bytes c b format (keeps_aiger only s fits) of_text (base_at only s c b found is has)
 
-pub cannot_express : (f : Format) (s : ImproveSettings) (w : Wishes) (bytes name : List ℕ) (c : Circuit) →
-    IsCircuitOfText f bytes c → w.only ≡ true → IsInexpressibleBy s c name → IsCannotExpress f s w bytes name
-cannot_express f s w bytes name c is wish by = record { wish = wish; circuit = c; of_text = is; gate = by }
+-- ---- no text
 
-pub too_large : (f : Format) (w : Wishes) (bytes : List ℕ) (c : Circuit) → IsCircuitOfText f bytes c → w.only ≡ true →
-    IsTooLarge f w bytes
-too_large f w bytes c is wish = record {
-  wish = wish;
-  netlist = record { listed = is.listed; said = is.said; well = is.well };
+pub cannot_express : (f : Format) (s : ImproveSettings) (w : Wishes) (bytes : List ℕ) (c : Circuit) (found : Based)
+    (name : Vec ℕ Global) → IsCircuitOfText f bytes c → found ≡ Cannot name → IfNone found (w.only ≡ true) →
+    IfCannot found (IsInexpressibleBy s c) → IsCannotExpress f s w bytes name.items
+cannot_express f s w bytes c found name of_text is wish by = record {
+  wish = subst (λ (x : Based). IfNone x (w.only ≡ true)) is wish;
+  circuit = c;
+  of_text = of_text;
+  gate = subst (λ (x : Based). IfCannot x (IsInexpressibleBy s c)) is by;
+}
+
+pub too_large : (f : Format) (w : Wishes) (bytes : List ℕ) (c : Circuit) (found : Based) → IsCircuitOfText f bytes c →
+    found ≡ TooMany → IfNone found (w.only ≡ true) → IfTooMany found (MayHaveTooMany c.net) → IsTooLarge f w bytes
+too_large f w bytes c found of_text is wish large = record {
+  wish = subst (λ (x : Based). IfNone x (w.only ≡ true)) is wish;
+  circuit = c;
+  of_text = of_text;
+  large = subst (λ (x : Based). IfTooMany x (MayHaveTooMany c.net)) is large;
 }
 
 pub ruleset texts = (common_steps, text_proper, base_proper, bench_can, aiger_can, cannot_express, too_large)

@@ -12,14 +12,14 @@ use Rattle.net_theory.specs.Implements.{Implements}
 use Rattle.net_theory.specs.Operators.{HasOperatorsWithin}
 use Rattle.net_theory.specs.WellFormed.{IsWellFormed}
 use Rattle.net_document.specs.Listed.{Listed}
-use Rattle.net_document.specs.Format.{Format, IsNetlist, IsCircuitOfText}
+use Rattle.net_document.specs.Format.{Format, IsCircuitOfText}
 use Rattle.net_document.specs.Equivalence.{AreEquivalentCircuits}
 use Rattle.settings.specs.declared.improve.ImproveSettings.{ImproveSettings}
 use Rattle.wish_names.specs.declared.wishes.Wishes.{Wishes}
 use Rattle.wish_names.specs.declared.wishes.LevelsAsked.{LevelsAsked}
 use Rattle.wish_names.specs.declared.wishes.LevelsAsked.TheVariants.{Untold, Tell, Keep, Most}
 use Rattle.net_levels.specs.Levels.{levels_of}
-use Rattle.net_basis.specs.OverBasis.{HaveOperatorsIn}
+use Rattle.net_basis.specs.OverBasis.{HaveOperatorsIn, MayHaveTooMany}
 use Rattle.improve_theory.specs.Undecided.{Undecided}
 use Rattle.improve_theory.specs.Improvement.{IsImprovementBy}
 use Rattle.improve_levels.specs.Within.{IsWithin}
@@ -86,7 +86,7 @@ pub record IsTextBy (f : Format) (Can : Circuit → Type 0) (s : ImproveSettings
   pub settled : Bool
   pub undecided : List Undecided
   pub better : IsBetterBy f s levels b circuit before after settled undecided
-  pub can : Can circuit
+  pub writes : Can circuit
   pub spelled : text ≡ f.text circuit
   pub reported : report ≡ wished_report levels (gate_names circuit) circuit.net.sources before after
       (levels_of b.net) (levels_of circuit.net) settled undecided
@@ -138,7 +138,9 @@ pub record IsCannotExpress (f : Format) (s : ImproveSettings) (w : Wishes) (byte
   pub of_text : IsCircuitOfText f bytes circuit
   pub gate : IsInexpressibleBy s circuit name
 
--- The bytes list a well-formed document, whose net had too many gates over the basis.
+-- The bytes list a well-formed document, whose net may have too many gates over the basis.
 pub record IsTooLarge (f : Format) (w : Wishes) (bytes : List ℕ) : Type 0 where
   pub wish : w.only ≡ true
-  pub netlist : IsNetlist f bytes
+  pub circuit : Circuit
+  pub of_text : IsCircuitOfText f bytes circuit
+  pub large : MayHaveTooMany circuit.net

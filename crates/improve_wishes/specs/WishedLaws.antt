@@ -1,5 +1,5 @@
 -- A circuit that was improved by wishes can be written, and its text is that of a netlist which was improved so.
-use Rattle.std.specs.Prelude.{◌≡◌, ℕ, ◌≤◌, ◌≢◌, ◌⊎◌, Bool, true, false, List, [], ◌∷◌, length, All, refl}
+use Rattle.std.specs.Prelude.{◌≡◌, ℕ, ◌≤◌, Bool, true, false, List, length, All}
 use Rattle.std.proofs.Common.{arith, sym, ◌∙◌, ap, subst, inl, inr, ⊎_elim}
 use Rattle.std.proofs.lemmas.Grind.{common_steps}
 use Rattle.op_basis.specs.Basis.{members}
@@ -19,97 +19,19 @@ use Rattle.bench_core.specs.Bench.{bench_format}
 use Rattle.bench_core.specs.Writable.{HasGateWord}
 use Rattle.bench_laws.specs.Spelled.{IsGateWord, CanWriteBench}
 use Rattle.aiger_forms.specs.Forms.{aiger_forms}
-use Rattle.aiger_laws.specs.Writable.{IsAndGate, CanWriteAiger}
+use Rattle.aiger_laws.specs.Writable.{CanWriteAiger}
 use Rattle.settings.specs.declared.improve.ImproveSettings.{ImproveSettings}
 use Rattle.wish_names.specs.declared.wishes.Wishes.{Wishes}
 use Rattle.wish_names.specs.declared.wishes.LevelsAsked.{LevelsAsked}
 use Rattle.wish_names.specs.declared.wishes.LevelsAsked.TheVariants.{Untold, Tell, Keep, Most}
 use Rattle.net_levels.specs.Levels.{levels_of}
-use Rattle.net_basis.specs.OverBasis.{HaveOperatorsIn, IsCircuitOver, IsInexpressibleAt}
 use Rattle.improve_theory.specs.Undecided.{Undecided}
 use Rattle.improve_windows.specs.Improving.{FitsFormat, IsBetter}
 use Rattle.improve_windows.specs.ImprovingLaws.{named_can}
 use Rattle.improve_windows.specs.ReportLaws.{CanBeWritten}
 use Rattle.improve_levels.specs.Within.{IsBetterWithin}
-use Rattle.improve_wishes.specs.declared.bases.Based.{Based}
-use Rattle.improve_wishes.specs.declared.bases.Based.TheVariants.{Base, Cannot, TooMany}
-use Rattle.improve_wishes.specs.Based.{IfBase, IfNone, IsNamed, IsInexpressibleBy}
 use Rattle.improve_wishes.specs.LevelsReport.{wished_report}
 use Rattle.improve_wishes.specs.Wished.{IsOver, IsBaseNet, IsOverIf, IsReached, IsBetterBy, IsBase, IsTextBy, IsWished}
-
--- ---- what is improved
-
--- Without `--only yes` it is the circuit itself, and so it is where there are no gates.
-pub itself : (s : ImproveSettings) (c : Circuit) → IsProper c → IsBase false s c c
-itself s c is = record {
-  proper = is;
-  same = refl;
-  equivalent = record { inputs = refl; outputs = refl; clocks = refl; latches = refl; values = λ given. refl };
-  net = refl;
-  bare = λ none. refl;
-}
-
-no_operators : (basis : ℕ) (gs : List Gate) → length gs ≡ 0 → HaveOperatorsIn (members basis) gs
-no_operators basis [] none = record { each = λ i g at. absurd cc }
-no_operators basis (g ∷ gs) none = absurd (omega arith)
-
-bare_itself : (only : Bool) (s : ImproveSettings) (c : Circuit) → IsProper c → length c.net.gates ≡ 0 → IsBase only s c c
-bare_itself false s c is none = itself s c is
-bare_itself true s c is none = record {
-  proper = is;
-  same = refl;
-  equivalent = record { inputs = refl; outputs = refl; clocks = refl; latches = refl; values = λ given. refl };
-  net = no_operators s.basis c.net.gates none;
-  bare = λ same. refl;
-}
-
-pub base_itself : (only : Bool) (s : ImproveSettings) (c : Circuit) (converts : Bool) → IsProper c →
-    (converts ≡ false → (only ≡ false) ⊎ (length c.net.gates ≡ 0)) → converts ≡ false → IsBase only s c c
-base_itself only s c converts is why isnt = ⊎_elim
-    (λ no_wish. subst (λ (o : Bool). IsBase o s c c) (sym no_wish) (itself s c is))
-    (λ none. bare_itself only s c is none) (why isnt)
-
-base_over : (only : Bool) (s : ImproveSettings) (c b : Circuit) → only ≡ true → length c.net.gates ≢ 0 →
-    IsCircuitOver (members s.basis) c b → IsBase only s c b
-base_over only s c b wish some over = subst (λ (o : Bool). IsBase o s c b) (sym wish) (record {
-  proper = over.proper;
-  same = over.same;
-  equivalent = over.equivalent;
-  net = over.operators;
-  bare = λ none. absurd (some (ap (length {A = Gate}) none));
-})
-
-pub based_over : (found : Based) (only : Bool) (s : ImproveSettings) (c : Circuit) (converts : Bool) →
-    (converts ≡ true → (only ≡ true) × (length c.net.gates ≢ 0)) → converts ≡ true →
-    IfBase found (IsCircuitOver (members s.basis) c) → IfBase found (IsBase only s c)
-based_over (Base b) only s c converts why is over = base_over only s c b (why is).0 (why is).1 over
-based_over (Cannot name) only s c converts why is over = tt
-based_over TooMany only s c converts why is over = tt
-
-pub by_wish : (found : Based) (only : Bool) (c : Circuit) (converts : Bool) →
-    (converts ≡ true → (only ≡ true) × (length c.net.gates ≢ 0)) → converts ≡ true → IfNone found (only ≡ true)
-by_wish (Base b) only c converts why is = tt
-by_wish (Cannot name) only c converts why is = (why is).0
-by_wish TooMany only c converts why is = (why is).0
-
-pub some_gates : (only : Bool) (c : Circuit) (converts : Bool) →
-    (converts ≡ true → (only ≡ true) × (length c.net.gates ≢ 0)) → converts ≡ true → length c.net.gates ≢ 0
-some_gates only c converts why is = (why is).1
-
-pub ruleset basing = (common_steps, base_itself, based_over, by_wish, some_gates)
-
-pub cannot_by : (s : ImproveSettings) (c left : Circuit) (node : ℕ) (name : List ℕ) → left ≡ c →
-    IsInexpressibleAt (members s.basis) c.net node → IsNamed left node name → IsInexpressibleBy s c name
-cannot_by s c left node name same at named = record {
-  node = node;
-  inexpressible = at;
-  named = subst (λ (x : Circuit). IsNamed x node name) same named;
-}
-
-pub left_proper : (c left : Circuit) → left ≡ c → IsProper c → IsProper left
-left_proper c left same is = subst IsProper (sym same) is
-
-pub ruleset converting = (common_steps, cannot_by, left_proper)
 
 -- ---- operators
 
@@ -274,7 +196,7 @@ text_by f Can s levels b k base_levels before after settled named text report be
   settled = settled;
   undecided = named;
   better = better;
-  can = can;
+  writes = can;
   spelled = spells;
   reported = reported ∙ ap (λ (n : ℕ). wished_report levels (gate_names k) k.net.sources before after n
       (levels_of k.net) settled named) told;
@@ -286,7 +208,7 @@ pub wished : (f : Format) (Can : Circuit → Type 0) (s : ImproveSettings) (w : 
 wished f Can s w bytes text report c b format is base by =
     let k = by.circuit in
     let better = by.better in
-    let back = format.read_back k by.can in
+    let back = format.read_back k by.writes in
     let of_base : Describes is.listed.document b = describes_equivalent is.listed.document c b is.circuit.describes base.equivalent in
     record {
       read = is.listed;

@@ -1,10 +1,10 @@
 //! What is improved: the circuit that was read, or one over the basis.
-ghost use Rattle.std.specs.Prelude.{◌≡◌, ◌≢◌, ◌⊎◌, true, false, length, IfOk};
+ghost use Rattle.std.specs.Prelude.{◌≡◌, ◌==◌, true, length, IfOk};
 ghost use Rattle.op_basis.specs.Basis.{members};
 ghost use Rattle.net_theory.specs.Circuit.{IsProper};
-ghost use Rattle.net_basis.specs.OverBasis.{IsCircuitOver};
+ghost use Rattle.net_basis.specs.OverBasis.{IsCircuitOver, MayHaveTooMany};
 ghost use Rattle.improve_windows.specs.Report.{name_at};
-ghost use Rattle.improve_wishes.specs.Based.{IfBase, IfCannot, IfNone, IsNamed, IsInexpressibleBy};
+ghost use Rattle.improve_wishes.specs.Based.{IfBase, IfCannot, IfTooMany, IfNone, IsNamed, IsInexpressibleBy};
 ghost use Rattle.improve_wishes.specs.Wished.{IsBase};
 
 use net_basis::{Converted, over_basis};
@@ -19,7 +19,7 @@ pub(crate) enum Based {
     Base(Circuit),
     /// The basis can't express the gate with this name.
     Cannot(Vec<u8>),
-    /// Over the basis there would be more gates than a netlist may have.
+    /// Over the basis there may be more gates than a netlist may have.
     TooMany,
 }
 
@@ -44,19 +44,15 @@ fn gate_name(alloc: Global, circuit: &Circuit, node: u32) -> Result<Vec<u8>, All
     name_in(alloc, &names, circuit.net.sources(), node)
 }
 
-/// Whether a circuit is converted.
-fn converts(only: bool, circuit: &Circuit) -> bool
-    ensures yes { result ≡ true → (only ≡ true) × (length circuit.now.net.gates ≢ 0) }
-    ensures no { result ≡ false → (only ≡ false) ⊎ (length circuit.now.net.gates ≡ 0) }
+/// Whether a circuit has no gates.
+fn is_bare(circuit: &Circuit) -> bool
+    ensures { result ≡ (length circuit.now.net.gates == 0) }
 {
-    if !only {
-        return false;
-    }
-    !circuit.net.gates().is_empty()
+    circuit.net.gates().len() == 0
 }
 
 /// The circuit over the basis.
-#[tactic(auto, using(crate::specs::WishedLaws::converting))]
+#[tactic(auto, using(crate::specs::BasedLaws::converting))]
 fn converted(
     alloc: Global,
     circuit: Circuit,
@@ -65,11 +61,13 @@ fn converted(
     requires { IsProper circuit }
     ensures base { IfOk result (λ b. IfBase b (IsCircuitOver (members settings.now.basis) circuit)) }
     ensures cannot { IfOk result (λ b. IfCannot b (IsInexpressibleBy settings.now circuit)) }
+    ensures too_many { IfOk result (λ b. IfTooMany b (MayHaveTooMany circuit.net)) }
 {
-    match over_basis(alloc, circuit, settings.basis)? {
+    let found = over_basis(alloc, circuit, settings.basis)?;
+    match found {
         Converted::Over(base) => Ok(Based::Base(base)),
-        Converted::Cannot(circuit, node) => {
-            let name = gate_name(alloc, &circuit, node)?;
+        Converted::Cannot(left, node) => {
+            let name = gate_name(alloc, &left, node)?;
             Ok(Based::Cannot(name))
         }
         Converted::TooMany(_) => Ok(Based::TooMany),
@@ -77,7 +75,7 @@ fn converted(
 }
 
 /// What is improved of a circuit: the circuit itself, or with the wish for the basis and nothing else one over it.
-#[tactic(auto, using(crate::specs::WishedLaws::basing))]
+#[tactic(auto, using(crate::specs::BasedLaws::basing))]
 pub(crate) fn base_of(
     alloc: Global,
     circuit: Circuit,
@@ -87,10 +85,14 @@ pub(crate) fn base_of(
     requires { IsProper circuit }
     ensures base { IfOk result (λ b. IfBase b (IsBase only settings.now circuit)) }
     ensures cannot { IfOk result (λ b. IfCannot b (IsInexpressibleBy settings.now circuit)) }
+    ensures too_many { IfOk result (λ b. IfTooMany b (MayHaveTooMany circuit.net)) }
     ensures wish { IfOk result (λ b. IfNone b (only ≡ true)) }
 {
-    let is_converted = converts(only, &circuit);
-    if !is_converted {
+    if !only {
+        return Ok(Based::Base(circuit));
+    }
+    let bare = is_bare(&circuit);
+    if bare {
         return Ok(Based::Base(circuit));
     }
     let found = converted(alloc, circuit, settings)?;

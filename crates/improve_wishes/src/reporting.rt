@@ -1,6 +1,5 @@
 //! The report, with a line of levels.
-ghost use Rattle.std.specs.Prelude.{◌≡◌, ◌≤◌, ◌++◌, length, All, IfOk};
-ghost use Rattle.std.proofs.Common.{drop};
+ghost use Rattle.std.specs.Prelude.{◌≡◌, ◌≤◌, ◌++◌, length, drop, All, IfOk};
 ghost use Rattle.net_theory.specs.Circuit.{IsProper};
 ghost use Rattle.net_theory.specs.Naming.{gate_names as gate_names_of};
 ghost use Rattle.net_levels.specs.Levels.{levels_of};
@@ -9,6 +8,7 @@ ghost use Rattle.improve_windows.specs.ReportLaws.{CanBeWritten};
 ghost use Rattle.improve_wishes.specs.LevelsReport as spec;
 
 use improve_windows::{Improved, all_reported};
+use net_levels::levels;
 use std::alloc::{AllocError, Global};
 use text_core::push_number;
 use wish_names::LevelsAsked;
@@ -47,19 +47,25 @@ fn short_report(alloc: Global, base_levels: u32, improved: &Improved) -> Result<
         base_levels (levels_of improved.now.circuit.net)) }
 {
     let mut text = first_line(alloc, improved.before, improved.after)?;
-    let levels = net_levels::levels(alloc, &improved.circuit.net)?;
-    let line = levels_line(alloc, base_levels, levels)?;
+    let after = levels(alloc, &improved.circuit.net)?;
+    let line = levels_line(alloc, base_levels, after)?;
     text.extend_from_slice(&line)?;
     Ok(text)
 }
 
-/// A text, and another from a place on.
-fn joined(alloc: Global, first: &[u8], other: &[u8], place: usize) -> Result<Vec<u8>, AllocError>
-    requires { place ≤ length other.now }
-    ensures { IfOk result (λ text. text.items ≡ first.now ++ drop place other.now) }
+/// A text, and another without as many bytes as a third one has.
+fn joined(
+    alloc: Global,
+    first: &Vec<u8>,
+    other: &Vec<u8>,
+    skipped: &Vec<u8>,
+) -> Result<Vec<u8>, AllocError>
+    requires { length skipped.now.items ≤ length other.now.items }
+    ensures { IfOk result (λ text. text.items ≡
+        first.now.items ++ drop (length skipped.now.items) other.now.items) }
 {
     let mut text = Vec::from_slice(alloc, first)?;
-    text.extend_from_slice(&other[place..])?;
+    text.extend_from_slice(&other[skipped.len()..])?;
     Ok(text)
 }
 
@@ -75,23 +81,23 @@ fn told_report(alloc: Global, base_levels: u32, improved: &Improved) -> Result<V
     let first = first_line(alloc, improved.before, improved.after)?;
     let short = short_report(alloc, base_levels, improved)?;
     let whole = all_reported(alloc, improved)?;
-    joined(alloc, &short, &whole, first.len())
+    joined(alloc, &short, &whole, &first)
 }
 
 /// The report by what is wished of levels.
 pub(crate) fn wished_report(
     alloc: Global,
-    levels: LevelsAsked,
+    asked: LevelsAsked,
     base_levels: u32,
     improved: &Improved,
 ) -> Result<Vec<u8>, AllocError>
     requires proper { IsProper improved.now.circuit }
     requires undecided { All CanBeWritten improved.now.undecided.items }
-    ensures { IfOk result (λ text. text.items ≡ spec.wished_report levels
+    ensures { IfOk result (λ text. text.items ≡ spec.wished_report asked
         (gate_names_of improved.now.circuit) improved.now.circuit.net.sources improved.now.before improved.now.after
         base_levels (levels_of improved.now.circuit.net) improved.now.settled improved.now.undecided.items) }
 {
-    match levels {
+    match asked {
         LevelsAsked::Untold => all_reported(alloc, improved),
         LevelsAsked::Tell => told_report(alloc, base_levels, improved),
         LevelsAsked::Keep => short_report(alloc, base_levels, improved),

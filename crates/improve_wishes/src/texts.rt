@@ -1,5 +1,5 @@
 //! Texts that are improved by wishes, in each format.
-ghost use Rattle.std.specs.Prelude.{◌≡◌, ◌<◌, ◌^◌, length, IfOk, IfErr};
+ghost use Rattle.std.specs.Prelude.{◌<◌, ◌^◌, length, IfOk, IfErr};
 ghost use Rattle.net_document.specs.Format.{IsRefusedText};
 ghost use Rattle.blif_core.specs.Blif.{blif_format};
 ghost use Rattle.bench_core.specs.Bench.{bench_format};
@@ -9,7 +9,7 @@ ghost use Rattle.improve_windows.specs.Improving.{FitsFormat};
 ghost use Rattle.improve_wishes.specs.Texts.{IsWishedText};
 
 use crate::bases::{Based, base_of};
-use crate::writing::{aiger_text, bench_text, blif_text};
+use crate::writing::{aiger_of, bench_of, blif_of};
 use aiger_forms::{forms_are_a_format, read_forms};
 use bench_core::read_bench;
 use bench_laws::bench_is_a_format;
@@ -51,9 +51,10 @@ pub fn wished_blif<S: Solver, T: Tell>(
     // for the prover: the laws of BLIF
     blif_is_a_format();
     let circuit = read_blif(alloc, bytes)?;
-    match base_of(alloc, circuit, &settings, wishes.only)? {
+    let found = base_of(alloc, circuit, &settings, wishes.only)?;
+    match found {
         Based::Base(base) => {
-            let improved = blif_text::<S, T>(alloc, base, settings, wishes.levels, tell)?;
+            let improved = blif_of::<S, T>(alloc, base, settings, wishes.levels, tell)?;
             Ok(WishedText::Text(improved))
         }
         Based::Cannot(name) => Ok(WishedText::Cannot(name)),
@@ -79,9 +80,10 @@ pub fn wished_bench<S: Solver, T: Tell>(
     // for the prover: the laws of BENCH
     bench_is_a_format();
     let circuit = read_bench(alloc, bytes)?;
-    match base_of(alloc, circuit, &settings, wishes.only)? {
+    let found = base_of(alloc, circuit, &settings, wishes.only)?;
+    match found {
         Based::Base(base) => {
-            let improved = bench_text::<S, T>(alloc, base, settings, wishes.levels, tell)?;
+            let improved = bench_of::<S, T>(alloc, base, settings, wishes.levels, tell)?;
             Ok(WishedText::Text(improved))
         }
         Based::Cannot(name) => Ok(WishedText::Cannot(name)),
@@ -108,9 +110,10 @@ pub fn wished_aiger<S: Solver, T: Tell>(
     // for the prover: the laws of AIGER
     forms_are_a_format();
     let circuit = read_forms(alloc, bytes)?;
-    match base_of(alloc, circuit, &settings, wishes.only)? {
+    let found = base_of(alloc, circuit, &settings, wishes.only)?;
+    match found {
         Based::Base(base) => {
-            let improved = aiger_text::<S, T>(alloc, base, settings, wishes.levels, tell)?;
+            let improved = aiger_of::<S, T>(alloc, base, settings, wishes.levels, tell)?;
             Ok(WishedText::Text(improved))
         }
         Based::Cannot(name) => Ok(WishedText::Cannot(name)),

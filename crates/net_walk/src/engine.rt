@@ -51,7 +51,7 @@ const LEAST_GATES: u32 = 8;
 const WINDOW_WORK: u64 = 20_000;
 
 /// Under a limit of levels a walk is looked at after so many moves: it goes back where a path is too long.
-const LIMITED_MOVES: u32 = 20;
+const LIMITED_MOVES: u32 = 5;
 
 /// Levels and required times are made exact after so much work for each gate.
 const TIMING_INTERVAL: u64 = 500;

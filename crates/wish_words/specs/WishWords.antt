@@ -1,5 +1,5 @@
 -- What the words of `improve` wish of the netlist that it writes, and the words without these wishes.
-use Rattle.std.specs.Prelude.{ℕ, List, [], ◌∷◌, ◌++◌, Bool, true, false, ◌||◌, Option, Some, None, codes, if◌then◌else◌}
+use Rattle.std.specs.Prelude.{ℕ, List, [], ◌∷◌, ◌++◌, Bool, true, false, Option, Some, None, codes, if◌then◌else◌}
 use Rattle.text_core.specs.Numbers.{number_up_to}
 use Rattle.command_line.specs.Options.{is_word, flag_in}
 use Rattle.command_line.specs.CommandLine.{word_after, is_named}
@@ -51,7 +51,8 @@ is_asked form = true
 
 -- a wish is named
 abbrev pub names_wish : List (List ℕ) → FormAsked → Bool
-names_wish options form = is_named (codes "--only") options || (is_named (codes "--levels") options || is_asked form)
+names_wish options form = if is_named (codes "--only") options then true
+    else (if is_named (codes "--levels") options then true else is_asked form)
 
 abbrev pub wishes_from : Option Bool → Option LevelsAsked → FormAsked → Option Wishes
 wishes_from (Some only) (Some levels) form = Some (record { only = only; levels = levels; form = form })

@@ -2,9 +2,8 @@
 ghost use Rattle.std.specs.Prelude.{◌≡◌, map, codes, Some};
 ghost use Rattle.std.specs.Option.{option_map};
 ghost use Rattle.std.specs.String.{string_bytes};
-ghost use Rattle.text_core.specs.Numbers.{number_up_to as number_up_to_of};
 ghost use Rattle.command_line.specs.Options.{flag_in as flag_in_of};
-ghost use Rattle.command_line.specs.CommandLine.{word_after as word_after_of};
+ghost use Rattle.command_line.specs.CommandLine.{word_after as word_after_of, is_named as is_named_of};
 ghost use Rattle.wish_words.specs.WishWords as spec;
 
 use file_words::ends_with;
@@ -39,10 +38,10 @@ fn only_in(options: &[String]) -> Option<bool>
 }
 
 /// A number of levels.
-fn most_in(word: &[u8]) -> Option<LevelsAsked>
-    ensures { result ≡ spec.most_in (number_up_to_of spec.most_levels word.now) }
+fn most_in(found: Option<u32>) -> Option<LevelsAsked>
+    ensures { result ≡ spec.most_in found }
 {
-    match number_up_to(MOST_LEVELS, word) {
+    match found {
         None => None,
         Some(most) => Some(LevelsAsked::Most(most)),
     }
@@ -58,7 +57,7 @@ fn levels_named(word: &[u8]) -> Option<LevelsAsked>
     if is_word(word, b"keep") {
         return Some(LevelsAsked::Keep);
     }
-    most_in(word)
+    most_in(number_up_to(MOST_LEVELS, word))
 }
 
 /// The value of `--levels`.
@@ -107,13 +106,24 @@ fn is_asked(form: FormAsked) -> bool
     }
 }
 
+/// Whether an option is named.
+fn is_named(name: &[u8], options: &[String]) -> bool
+    ensures { result ≡ is_named_of name.now (map string_bytes options.now) }
+{
+    word_after(name, options).is_some()
+}
+
 /// Whether a wish is named.
 fn names_wish(options: &[String], form: FormAsked) -> bool
     ensures { result ≡ spec.names_wish (map string_bytes options.now) form }
 {
-    word_after(b"--only", options).is_some()
-        || word_after(b"--levels", options).is_some()
-        || is_asked(form)
+    if is_named(b"--only", options) {
+        return true;
+    }
+    if is_named(b"--levels", options) {
+        return true;
+    }
+    is_asked(form)
 }
 
 /// The wishes by the values of the options.
