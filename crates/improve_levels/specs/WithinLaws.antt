@@ -1,6 +1,6 @@
 -- Nets of few levels that take each other's place, and circuits with such nets.
 use Rattle.std.specs.Prelude.{◌≡◌, ℕ, ◌≤◌, max, Option, None, Some, IfSome, unwrap_or, length, refl}
-use Rattle.std.proofs.Common.{arith, sym, ◌∙◌, ap, subst, inl, inr, ⊎_elim}
+use Rattle.std.proofs.Common.{arith, sym, ◌∙◌, ap, subst}
 use Rattle.std.proofs.lemmas.Grind.{common_steps}
 use Rattle.chain_theory.specs.Operator.{Basis}
 use Rattle.op_basis.specs.Basis.{members}
@@ -43,6 +43,13 @@ pub flat_found : (basis : Basis) (limit : ℕ) (n m : Net) (found : Option Net) 
 flat_found basis limit n m None few is within low same = subst (IsFlat basis limit n) (sym same) (flat_itself basis limit n few)
 flat_found basis limit n m (Some d) few is within low same =
     subst (IsFlat basis limit n) (sym same) (record { replaces = moved_replaces basis n d is within; levels = low })
+
+-- a copy of the net in which equal gates are one, where its levels were counted
+pub flat_merged : (basis : Basis) (limit count : ℕ) (n d m : Net) → d ≡ n → IsReplacement basis d m → count ≡ levels_of m → count ≤ limit → IsFlat basis limit n m
+flat_merged basis limit count n d m same replaces is few = record {
+  replaces = subst (λ (x : Net). IsReplacement basis x m) same replaces;
+  levels = omega (arith, is, few);
+}
 
 -- a net after cleanup
 pub tidy_within : (s : ImproveSettings) (most : ℕ) (n m : Net) → IsNet n → m ≡ cleanup n → IsWithin s most n m
@@ -89,6 +96,6 @@ better_within f s most c k before after is same within before_is after_is cheap 
     subst (λ (x : Circuit). IsBetterWithin f s most c x before after) (sym same)
     (better_at f s most c k.net before after is within before_is (after_is ∙ ap (λ (x : Circuit). cost (f.written x)) same) cheap)
 
-pub ruleset limiting = (common_steps, flat_itself, flat_on, flat_found, tidy_within, flat_within, tidy_flat)
+pub ruleset limiting = (common_steps, flat_itself, flat_on, flat_found, flat_merged, tidy_within, flat_within, tidy_flat)
 
 pub ruleset bettering = (common_steps, within_proper, better_within)

@@ -1,8 +1,7 @@
 //! A net after cleanup, functional hashing and moves over the whole net, in the stages of the effort, each under the
 //! limit of levels. A stage's result is taken only if it has no more levels.
-ghost use Rattle.std.specs.Prelude.{◌≡◌, ◌≤◌, ◌<◌, max, length, IfOk, IfSome};
+ghost use Rattle.std.specs.Prelude.{◌≡◌, ◌≤◌, ◌<◌, max, IfOk};
 ghost use Rattle.op_basis.specs.Basis.{members};
-ghost use Rattle.settings.specs.Improve.{IsInRange};
 ghost use Rattle.net_levels.specs.Levels.{levels_of};
 ghost use Rattle.improve_levels.specs.Within.{IsWithin};
 ghost use Rattle.improve_levels.specs.WithinLaws.{IsFlat};
@@ -16,9 +15,6 @@ use sat_solve::Solver;
 use settings::ImproveSettings;
 use std::alloc::{AllocError, Global};
 use window_attempt::many_merged;
-
-/// A search that is lost in the first stage begins again so many times.
-const MOST_BEGINNINGS: u32 = 3;
 
 /// The same net.
 fn copied(alloc: Global, net: &Net) -> Result<Net, AllocError>
@@ -42,7 +38,8 @@ fn merged(
 {
     let copy = copied(alloc, &net)?;
     let merged = many_merged(alloc, copy, settings.cap)?;
-    if levels(alloc, &merged)? <= limit {
+    let count = levels(alloc, &merged)?;
+    if count <= limit {
         return Ok(merged);
     }
     Ok(net)
@@ -82,7 +79,25 @@ fn moved<S: Solver>(
     next::<S>(moves, net, settings, limit)
 }
 
-/// The net after the first stage.
+/// The net after so much work from it, where the search is lost.
+#[tactic(auto, using(crate::specs::WithinLaws::limiting))]
+fn begun_again<S: Solver>(
+    moves: &mut Moves,
+    net: Net,
+    settings: &ImproveSettings,
+    limit: u32,
+    work: u64,
+) -> Result<Net, AllocError>
+    requires { levels_of net ≤ limit }
+    ensures { IfOk result (IsFlat (members settings.now.basis) limit net) }
+{
+    if !moves.is_lost() {
+        return Ok(net);
+    }
+    moved::<S>(moves, net, settings, limit, work)
+}
+
+/// The net after the first stage. A search that is lost begins again twice.
 #[tactic(auto, using(crate::specs::WithinLaws::limiting))]
 fn begun<S: Solver>(
     moves: &mut Moves,
@@ -95,13 +110,11 @@ fn begun<S: Solver>(
 {
     let gates = net.gates().len();
     moves.begin(first_work(gates), first_patience(gates))?;
-    let mut best = next::<S>(moves, net, settings, limit)?;
-    let again = first_patience(gates).saturating_mul(gates as u64);
-    for _beginning in 0..MOST_BEGINNINGS {
-        let work = if moves.is_lost() { again } else { 0 };
-        best = moved::<S>(moves, best, settings, limit, work)?;
-    }
-    Ok(best)
+    let work = first_patience(gates).saturating_mul(gates as u64);
+    let first = next::<S>(moves, net, settings, limit)?;
+    let second = begun_again::<S>(moves, first, settings, limit, work)?;
+    let third = begun_again::<S>(moves, second, settings, limit, work)?;
+    Ok(third)
 }
 
 /// The net after all stages.
@@ -122,7 +135,8 @@ fn searched<S: Solver, T: Tell>(
     for effort in 0..settings.effort {
         tell.tell(Progress::Gates(best.gates().len()));
         let work = stage_work(effort.saturating_add(1), best.gates().len());
-        best = moved::<S>(&mut moves, best, settings, limit, work)?;
+        let more = moved::<S>(&mut moves, best, settings, limit, work)?;
+        best = more;
     }
     tell.tell(Progress::Gates(best.gates().len()));
     Ok(best)
@@ -142,10 +156,12 @@ pub fn improve_net_within<S: Solver, T: Tell>(
 {
     // for the prover: brings the net's invariant into the proof
     let _gates = net.gates();
-    let limit = most.max(levels(alloc, net)?);
+    let before = levels(alloc, net)?;
+    let limit = most.max(before);
     let tidy = remove_dangling(alloc, net)?;
     if settings.cap == 0 {
         return Ok(tidy);
     }
-    searched::<S, T>(alloc, tidy, &settings, limit, tell)
+    let flat = searched::<S, T>(alloc, tidy, &settings, limit, tell)?;
+    Ok(flat)
 }

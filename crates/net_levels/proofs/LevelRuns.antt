@@ -1,6 +1,6 @@
 -- The levels of one gate more, and the largest of one sink more.
-use Rattle.std.proofs.Common.{◌≡◌, ◌≢◌, ℕ, zero, suc, ◌+◌, ◌≤◌, ◌<◌, List, [], ◌∷◌, length, replicate, set, get_or, take, drop, ◌++◌, add-zero, refl, sym, ap, subst, ◌∙◌, arith, ⊎_elim}
-use Rattle.std.specs.Prelude.{max, slice_get, Some}
+use Rattle.std.proofs.Common.{◌≡◌, ◌≢◌, ℕ, ◌+◌, ◌≤◌, ◌<◌, List, [], ◌∷◌, length, replicate, set, get_or, take, drop, ◌++◌, refl, sym, ap, ◌∙◌, arith, ⊎_elim}
+use Rattle.std.specs.Prelude.{max}
 use Rattle.std.proofs.lemmas.Bool.{cases_eq, cases_lt}
 use Rattle.std.proofs.lemmas.List.{get_or-set_same, get_or-set_other, get_or-replicate, get_or_past, length-replicate}
 use Rattle.std.proofs.Math.Seq.{take-append_seam}
@@ -9,8 +9,7 @@ use Rattle.chain_theory.specs.LevelLaws.{placed-same, placed-other}
 use Rattle.net_theory.specs.declared.data.Sig.{Sig}
 use Rattle.net_theory.specs.declared.data.Sig.TheVariants.{Zero, One, Node}
 use Rattle.net_theory.specs.declared.data.Gate.{Gate}
-use Rattle.net_theory.specs.Net.{Net, IsNet, IsSigBelow, IsGateAt}
-use Rattle.net_levels.specs.Levels.{sig_level, gate_level, levels_after, level, largest, levels_of}
+use Rattle.net_levels.specs.Levels.{sig_level, gate_level, levels_after, largest}
 use Rattle.net_levels.specs.LevelRows.{row_levels}
 
 -- ---- rows

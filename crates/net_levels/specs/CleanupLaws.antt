@@ -13,7 +13,7 @@ use Rattle.net_theory.specs.Moving.{moved, moved_gate, nothing_kept}
 use Rattle.net_theory.specs.MovingLaws.{Goes, kept_goes, nodes_low, source_stays, reads_below}
 use Rattle.net_theory.specs.Dangling.{kept_gates, cleanup}
 use Rattle.net_theory.specs.DanglingLaws.{cleanup_is}
-use Rattle.net_levels.specs.Levels.{sig_level, gate_level, level, largest, levels_of}
+use Rattle.net_levels.specs.Levels.{sig_level, level, largest, levels_of}
 use Rattle.net_levels.specs.LevelLaws.{level_source, level_gate}
 
 -- a node that is kept: a source, or a gate below the sinks

@@ -1,5 +1,5 @@
 -- Levels, characterised without recursion.
-use Rattle.std.specs.Prelude.{◌≡◌, ℕ, zero, suc, ◌+◌, ◌≤◌, ◌<◌, max, List, [], ◌∷◌, slice_get, Some, refl}
+use Rattle.std.specs.Prelude.{◌≡◌, ℕ, zero, suc, ◌+◌, ◌≤◌, ◌<◌, List, [], ◌∷◌, slice_get, Some, refl}
 use Rattle.std.proofs.Common.{add-zero, arith, sym, ◌∙◌, ap, subst}
 use Rattle.chain_theory.specs.Levels.{placed}
 use Rattle.chain_theory.specs.LevelLaws.{placed-same, placed-other}

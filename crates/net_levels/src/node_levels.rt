@@ -1,6 +1,5 @@
 //! The levels of the nodes one after another, and the largest of the sinks' levels.
-ghost use Rattle.std.specs.Prelude.{◌≡◌, ℕ, ◌+◌, ◌≤◌, ◌<◌, ◌^◌, length, IfOk, vec_len};
-ghost use Rattle.net_theory.specs.Net.{end_of};
+ghost use Rattle.std.specs.Prelude.{◌≡◌, ℕ, ◌+◌, ◌≤◌, ◌<◌, ◌^◌, length, IfOk};
 ghost use Rattle.net_levels.specs.Levels.{sig_level as sig_level_of, levels_after, level, largest, levels_of};
 ghost use Rattle.net_levels.specs.LevelRows.{row_levels};
 

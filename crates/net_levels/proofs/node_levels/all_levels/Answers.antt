@@ -1,4 +1,4 @@
-use Rattle.std.proofs.Common.{◌≡◌, ℕ, ◌+◌, ◌≤◌, ◌∙◌, List, length, arith, ap, subst, sym, replicate}
+use Rattle.std.proofs.Common.{ℕ, ◌+◌, ◌≤◌, ◌∙◌, List, arith, ap, subst, sym}
 use Rattle.net_theory.specs.declared.data.Gate.{Gate}
 use Rattle.net_levels.specs.Levels.{levels_after}
 use Rattle.net_levels.specs.LevelRows.{row_levels}

@@ -1,0 +1,14 @@
+use Rattle.std.specs.Prelude.{max}
+use Rattle.std.proofs.Common.{ap, ◌∙◌}
+use Rattle.improve_levels.specs.WithinLaws.{flat_within, tidy_flat}
+use Rattle.improve_levels.proofs.searching.improve_net_within.Goals as goal
+
+pub searched-requires : goal.searched-requires
+searched-requires g c =
+    tidy_flat c.args.most c.max-limit.result c.args.net.now c.in_ok-tidy.tidy c.gates-gates.ensures.net c.in_ok-tidy.ensures.exact
+    (c.max-limit.ensures ∙ ap (max c.args.most) c.in_ok-before.ensures)
+
+pub returns : goal.returns
+returns g c =
+    flat_within c.args.settings c.args.most c.max-limit.result c.args.net.now c.in_ok-tidy.tidy c.in_ok-flat.flat
+    c.gates-gates.ensures.net c.in_ok-tidy.ensures.exact (c.max-limit.ensures ∙ ap (max c.args.most) c.in_ok-before.ensures) c.in_ok-flat.ensures
