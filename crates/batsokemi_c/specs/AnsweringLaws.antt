@@ -6,6 +6,7 @@ use Rattle.command_line.specs.declared.command.Command.{Command}
 use Rattle.command_line.specs.CommandLine.{command_of, AsksFor}
 use Rattle.frame_core.specs.declared.status.Status.{Status}
 use Rattle.frame_core.specs.declared.status.Status.TheVariants.{Usage, ReadFault, WriteFault, Memory}
+use Rattle.frame_core.specs.Statuses.{number_of}
 use Rattle.frame_core.specs.Reported.{error_line, memory, too_long_refusal}
 use Rattle.frame_core.specs.Task.{IsBeyond, IsAnswerable}
 use Rattle.frame_core.specs.Run.{Run}
