@@ -16,6 +16,11 @@ and_split true true e = (refl, refl)
 and_split true false e = absurd cc
 and_split false b e = absurd cc
 
+both : (a b : Bool) → a ≡ true → b ≡ true → (a && b) ≡ true
+both true true e f = refl
+both true false e f = absurd cc
+both false b e f = absurd cc
+
 pub kept_known : (known : ℕ → Bool) (f w : ℕ) → known w ≡ true → extended known f true w ≡ true
 kept_known known f w is = ⊎_elim (λ here. extended-same known f w true here) (λ other. extended-other known f w true other ∙ is) (cases_eq w f)
 
@@ -29,12 +34,13 @@ makes_more : (basis : Basis) (known : ℕ → Bool) (js : List Join) (j : Join) 
     (w ≡ function_of j) ⊎ (makes basis known js w ≡ true) → makes basis known (js ++ j ∷ []) w ≡ true
 unfolding makes
 makes_more basis known [] j w op first second either =
-    rw (op, first, second) (⊎_elim (λ own. extended-same known (function_of j) w true own) (λ was. kept_known known (function_of j) w was) either)
+    both _ _ (both _ _ (both _ _ op first) second)
+    (⊎_elim (λ own. extended-same known (function_of j) w true own) (λ was. kept_known known (function_of j) w was) either)
 makes_more basis known (h ∷ js) j w op first second either =
     let next : ℕ → Bool = extended known (function_of h) true in
     let a = and_split (may_join basis known h) (makes basis next js j.first) first in
     let b = and_split (may_join basis known h) (makes basis next js j.second) second in
-    rw (a.0) (makes_more basis next js j w op a.1 b.1
+    both _ _ a.0 (makes_more basis next js j w op a.1 b.1
     (⊎_elim (λ own. inl own) (λ was. inr (and_split (may_join basis known h) (makes basis next js w) was).1) either))
 
 by_cases : (b u v w : Bool) → b ≡ true → (((b && u) && v) && not w) ≡ false → implies (u && v) w ≡ true

@@ -1,21 +1,21 @@
 -- One more gate of a net over a basis, and the whole net.
-use Rattle.std.specs.Prelude.{◌≡◌, ℕ, suc, ◌+◌, ◌-◌, ◌≤◌, ◌<◌, ◌^◌, ◌==◌, Bool, true, List, [], ◌∷◌, length, map, slice_get, Some, refl}
+use Rattle.std.specs.Prelude.{◌≡◌, ℕ, suc, ◌+◌, ◌*◌, ◌-◌, ◌≤◌, ◌<◌, ◌^◌, ◌==◌, Bool, true, List, [], ◌∷◌, length, map, slice_get, Some, refl}
 use Rattle.std.proofs.Common.{arith, sym, ◌∙◌, ◌≢◌, ap, subst, ⊎_elim}
 use Rattle.std.proofs.lemmas.Bool.{cases_eq}
 use Rattle.std.proofs.lemmas.List.{length-map}
-use Rattle.chain_theory.specs.Operator.{Basis}
+use Rattle.chain_theory.specs.Operator.{apply, Basis}
 use Rattle.net_theory.specs.declared.data.Sig.{Sig}
 use Rattle.net_theory.specs.declared.data.Sig.TheVariants.{Zero, One, Node}
 use Rattle.net_theory.specs.declared.data.Gate.{Gate}
 use Rattle.net_theory.specs.Net.{Net, IsNet, IsSigBelow, IsGateAt, end_of, sig_value, values_of, value}
 use Rattle.net_theory.specs.NameLaws.{all_at, at_all, map_at, at_map, index_map}
-use Rattle.net_theory.specs.ValueLaws.{grown_sig, grown_below, values_after-gate}
+use Rattle.net_theory.specs.ValueLaws.{below_later, grown_sig, grown_below, values_after-gate}
 use Rattle.net_theory.specs.Implements.{IsTrivialSink}
 use Rattle.net_theory.specs.Limits.{most_gates}
 use Rattle.net_theory.specs.Moving.{Kept, moved, moved_gate, put_sig, sources_stay, nothing_kept}
 use Rattle.net_theory.specs.MovingLaws.{Moves, IsSourceNode, moves_less, moves_start, moved_below, moved_value, source_stays}
 use Rattle.net_core.specs.Marks.{nodes_of, kept}
-use Rattle.net_basis.specs.OverBasis.{BehavesAs, IsNetOver, IsInexpressible, IsInexpressibleAt}
+use Rattle.net_basis.specs.OverBasis.{IsNetOver, IsInexpressible, IsInexpressibleAt, most_for_one}
 use Rattle.net_basis.specs.Placing.{IsExpressed, IsNodeBelow, IsConverted, net_with, AreLeft}
 use Rattle.net_basis.proofs.Placements.{put_same, put_other}
 
@@ -32,6 +32,10 @@ moved_at basis n node k g is at = record {
   second = moved_below n.sources (value n) (IsNodeBelow node) k g.b is.moves (operands_known node g.b at.second);
 }
 
+-- operands that are below a node are below later ones
+pub gate_later : (p q : ℕ) (g : Gate) → p ≤ q → IsGateAt p g → IsGateAt q g
+gate_later p q g low at = record { operator = at.operator; first = below_later g.a p q low at.first; second = below_later g.b p q low at.second }
+
 before : (node p : ℕ) → IsNodeBelow (node + 1) p → p ≢ node → IsNodeBelow node p
 before node p below other = (below.0, omega (arith, below.1, other))
 
@@ -47,13 +51,15 @@ node_value basis n i k new g s given net at is e =
     let node : ℕ = n.sources + 1 + i in
     let here : IsGateAt node g = net.gates.each i g at in
     let low : IsGateAt (n.sources + 1 + length k.gates) (moved_gate k.nodes g) = moved_at basis n node k g is here in
+    let a : sig_value (values_of given n.sources new) (moved k.nodes g.a) ≡ sig_value (value n given) g.a =
+    grown_sig n.sources k.gates new (moved k.nodes g.a) given e.grown low.first
+    ∙ moved_value n.sources (value n) (IsNodeBelow node) k g.a given is.moves (operands_known node g.a here.first) in
+    let b : sig_value (values_of given n.sources new) (moved k.nodes g.b) ≡ sig_value (value n given) g.b =
+    grown_sig n.sources k.gates new (moved k.nodes g.b) given e.grown low.second
+    ∙ moved_value n.sources (value n) (IsNodeBelow node) k g.b given is.moves (operands_known node g.b here.second) in
     e.value given
-    ∙ rw (
-      grown_sig n.sources k.gates new (moved k.nodes g.a) given e.grown low.first,
-      grown_sig n.sources k.gates new (moved k.nodes g.b) given e.grown low.second,
-      moved_value n.sources (value n) (IsNodeBelow node) k g.a given is.moves (operands_known node g.a here.first),
-      moved_value n.sources (value n) (IsNodeBelow node) k g.b given is.moves (operands_known node g.b here.second),
-    ) refl
+    ∙ ap (λ (t : Bool). apply g.op t (sig_value (values_of given n.sources new) (moved k.nodes g.b))) a
+    ∙ ap (λ (t : Bool). apply g.op (sig_value (value n given) g.a) t) b
     ∙ sym (values_after-gate given (n.sources + 1) i n.gates g at here)
 
 next_moves : (basis : Basis) (n : Net) (i : ℕ) (k : Kept) (new : List Gate) (g : Gate) (s : Sig) →
@@ -187,8 +193,9 @@ still_moved basis n k Zero is still = refl
 still_moved basis n k One is still = refl
 still_moved basis n k (Node p) is still = is.stay p still
 
-converted_over : (basis : Basis) (n : Net) (k : Kept) → IsNet n → IsConverted basis n (end_of n) k → n.sources + length k.gates < 2 ^ 31 → length k.gates ≤ most_gates → IsNetOver basis n (net_with n k)
-converted_over basis n k net is room few = record {
+converted_over : (basis : Basis) (n : Net) (k : Kept) → IsNet n → IsConverted basis n (end_of n) k → n.sources + length k.gates < 2 ^ 31 → length k.gates ≤ most_gates →
+    length k.gates ≤ most_for_one * length n.gates → IsNetOver basis n (net_with n k)
+converted_over basis n k net is room few each_few = record {
   behaves = record {
     net = converted_net basis n k net is room;
     sources = refl;
@@ -200,6 +207,7 @@ converted_over basis n k net is room few = record {
   };
   operators = is.operators;
   few = few;
+  each_few = each_few;
 }
 
 abbrev net_put : ℕ → List Gate → List Sig → Net
@@ -208,10 +216,11 @@ net_put s gs ss = record { sources = s; gates = gs; sinks = ss }
 -- The net of the new gates is the net over the basis.
 pub whole_over : (basis : Basis) (n : Net) (sources : ℕ) (nodes : List Sig) (gates : List Gate) (sinks : List Sig) → IsNet n →
     IsConverted basis n (end_of n) (kept nodes gates) → n.sources + length gates < 2 ^ 31 → length gates ≤ most_gates →
+    length gates ≤ most_for_one * length n.gates →
     sources ≡ n.sources → sinks ≡ map (moved (nodes_of nodes)) n.sinks →
     IsNetOver basis n (record { sources = sources; gates = gates; sinks = sinks })
-whole_over basis n sources nodes gates sinks net is room few same_sources same_sinks =
+whole_over basis n sources nodes gates sinks net is room few each_few same_sources same_sinks =
     let same : record { sources = sources; gates = gates; sinks = sinks } ≡ net_with n (kept nodes gates) =
     ap (λ (s : ℕ). net_put s gates sinks) same_sources
     ∙ ap (λ (ss : List Sig). net_put n.sources gates ss) same_sinks in
-    subst (IsNetOver basis n) (sym same) (converted_over basis n (kept nodes gates) net is room few)
+    subst (IsNetOver basis n) (sym same) (converted_over basis n (kept nodes gates) net is room few each_few)

@@ -5,7 +5,7 @@ use Rattle.std.proofs.lemmas.Bool.{cases_eq, cases_lt}
 use Rattle.chain_theory.specs.Value.{extended}
 use Rattle.chain_theory.specs.ValueLaws.{extended-same, extended-other}
 
-abbrev one_if : Bool → ℕ
+abbrev pub one_if : Bool → ℕ
 one_if true = 1
 one_if false = 0
 
@@ -29,7 +29,7 @@ unfolding known_below
 known_past known f zero high = refl
 known_past known f (suc k) high =
     let other : k ≢ f = omega (arith, high) in
-    rw (known_past known f k (omega (arith, high)), extended-other known f k true other) refl
+    omega (arith, known_past known f k (omega (arith, high)), ap one_if (extended-other known f k true other))
 
 -- one more function
 pub known_more : (known : ℕ → Bool) (f bound : ℕ) → f < bound → known f ≡ false → known_below (extended known f true) bound ≡ known_below known bound + 1
@@ -38,7 +38,7 @@ known_more known f zero low new = absurd (omega (arith, low))
 known_more known f (suc k) low new = elim (cases_eq k f) [
   | inl same ↦
       let had : known k ≡ false = ap known same ∙ new in
-      rw (known_past known f k (omega (arith, same)), extended-same known f k true same, had) (omega arith)
+      omega (arith, known_past known f k (omega (arith, same)), ap one_if (extended-same known f k true same), ap one_if had)
   | inr other ↦
-      rw (extended-other known f k true other) (omega (arith, known_more known f k (omega (arith, low, other)) new))
+      omega (arith, ap one_if (extended-other known f k true other), known_more known f k (omega (arith, low, other)) new)
 ]

@@ -1,18 +1,21 @@
 -- The gates of steps have the values of the functions that the steps make.
-use Rattle.std.proofs.Common.{◌≡◌, ◌≢◌, ℕ, ◌+◌, ◌<◌, ◌==◌, ◌||◌, Bool, true, false, ◌&&◌, List, [], ◌∷◌, ◌++◌, length, ◌⊎◌, refl, sym, ap, ◌∙◌, subst, arith, ⊎_elim, inl, inr, eqb-true, length-append}
+use Rattle.std.proofs.Common.{◌≡◌, ◌≢◌, ℕ, ◌+◌, ◌<◌, ◌==◌, ◌||◌, Bool, true, false, ◌&&◌, List, [], ◌∷◌, ◌++◌, length, set, get_or, ◌⊎◌, refl, sym, ap, ◌∙◌, subst, arith, ⊎_elim, inl, inr, eqb-true, length-append}
 use Rattle.std.specs.List.{slice_get}
 use Rattle.std.specs.Prelude.{Some}
 use Rattle.std.proofs.lemmas.Bool.{cases_eq, cond-true, cond-false, eq-eqb, ne_eqb, cases_Bool}
+use Rattle.std.proofs.lemmas.List.{get_or-set_same, get_or-set_other}
 use Rattle.chain_theory.specs.Operator.{apply, Basis}
 use Rattle.chain_theory.specs.Value.{extended}
+use Rattle.chain_theory.specs.ValueLaws.{extended-same, extended-other}
 use Rattle.op_basis.specs.Closed.{operator_of}
 use Rattle.op_basis.specs.Laws.{operator_values}
 use Rattle.net_theory.specs.declared.data.Sig.{Sig}
-use Rattle.net_theory.specs.declared.data.Sig.TheVariants.{Node}
+use Rattle.net_theory.specs.declared.data.Sig.TheVariants.{Zero, One, Node}
 use Rattle.net_theory.specs.declared.data.Gate.{Gate}
 use Rattle.net_theory.specs.Net.{IsSigBelow, IsGateAt, AreGates, sig_value, gate_value, values_of}
 use Rattle.net_theory.specs.ValueLaws.{ExtendsGates, grown_none, grown_more, grown_push, grown_sig, grown_below, value-last, at_push}
 use Rattle.net_theory.specs.Moving.{Kept, put_sig}
+use Rattle.net_core.specs.Marks.{nodes_of, kept}
 use Rattle.net_basis.specs.declared.join.Join.{Join}
 use Rattle.net_basis.specs.Joins.{joined, function_of, operands, may_join, makes}
 use Rattle.net_basis.specs.OverBasis.{HaveOperatorsIn}
@@ -24,6 +27,16 @@ put_same nodes node s p own = cond-true (p == node) s (nodes p) (eq-eqb p node o
 
 pub put_other : (nodes : ℕ → Sig) (node : ℕ) (s : Sig) (p : ℕ) → p ≢ node → put_sig nodes node s p ≡ nodes p
 put_other nodes node s p other = cond-false (p == node) s (nodes p) (ne_eqb p node other)
+
+-- writing one signal of a table
+pub nodes_put : (nodes : List Sig) (node : ℕ) (s : Sig) → node < length nodes → nodes_of (set nodes node s) ≡ put_sig (nodes_of nodes) node s
+unfolding nodes_of
+nodes_put nodes node s low = λ i p. at p i where
+  at : (p : ℕ) → nodes_of (set nodes node s) p ≡ put_sig (nodes_of nodes) node s p
+  at p = ⊎_elim
+      (λ here. ap (λ (k : ℕ). get_or (set nodes node s) k Zero) here ∙ get_or-set_same nodes node s Zero low ∙ sym (put_same (nodes_of nodes) node s p here))
+      (λ other. get_or-set_other nodes node p s Zero other ∙ sym (put_other (nodes_of nodes) node s p other))
+      (cases_eq p node)
 
 -- ---- values of operators
 
@@ -122,18 +135,23 @@ placing_more basis sources old a b known k j is member low first second =
           let x : Sig → Bool = sig_value (values_of given sources new) in
           let same_a : x a ≡ v a = grown_sig sources k.gates new a given grown below_a in
           let same_b : x b ≡ v b = grown_sig sources k.gates new b given grown below_b in
+          let turn : apply w (v a) (v b) ≡ apply w (x a) (x b) =
+          ap (λ (t : Bool). apply w t (v b)) (sym same_a) ∙ ap (λ (t : Bool). apply w (x a) t) (sym same_b) in
           ⊎_elim
           (λ own.
           ap x (put_same k.nodes f (Node end) w own)
           ∙ value-last given sources k.gates g
-          ∙ rw (is.value given j.first first, is.value given j.second second) (sym (joined_value j.op j.first j.second (v a) (v b)))
-          ∙ rw (same_a, same_b) (ap (λ (q : ℕ). apply q (v a) (v b)) (sym own)))
+          ∙ ap (λ (t : Bool). apply j.op t (v (k.nodes j.second))) (is.value given j.first first)
+          ∙ ap (λ (t : Bool). apply j.op (apply j.first (v a) (v b)) t) (is.value given j.second second)
+          ∙ sym (joined_value j.op j.first j.second (v a) (v b))
+          ∙ ap (λ (q : ℕ). apply q (v a) (v b)) (sym own)
+          ∙ turn)
           (λ other.
           let was : known w ≡ true = sym (extended-other known f w true other) ∙ now in
           ap x (put_other k.nodes f (Node end) w other)
           ∙ grown_sig sources k.gates new (k.nodes w) given grown (is.below w was)
           ∙ is.value given w was
-          ∙ rw (same_a, same_b) refl)
+          ∙ turn)
           (cases_eq w f);
     }
 
@@ -164,6 +182,19 @@ pub placed_expresses : (basis : Basis) (sources : ℕ) (a b : Sig) (k : Kept) (j
 placed_expresses basis sources a b k js w small are below_a below_b first second made =
     placing_all basis sources k.gates a b operands k js w small (placing_first basis sources a b k are below_a below_b first second) made
 
+-- the same for the tables and gates of the code
+pub chain_expresses : (basis : Basis) (sources : ℕ) (a b s : Sig) (base : ℕ → Sig) (table after : List Sig) (old new : List Gate)
+    (js : List Join) (w : ℕ) → ((p : ℕ) → basis p ≡ true → p < 16) → AreGates sources old →
+    IsSigBelow (sources + 1 + length old) a → IsSigBelow (sources + 1 + length old) b →
+    nodes_of table ≡ put_sig (put_sig base 3 a) 5 b → makes basis operands js w ≡ true →
+    kept after new ≡ placed sources (kept table old) js → s ≡ nodes_of after w → IsExpressed basis sources old new a b w s
+chain_expresses basis sources a b s base table after old new js w small are below_a below_b start made same is =
+    let first : nodes_of table 3 ≡ a = ap (λ (f : ℕ → Sig). f 3) start ∙ put_other (put_sig base 3 a) 5 b 3 (omega arith) ∙ put_same base 3 a 3 refl in
+    let second : nodes_of table 5 ≡ b = ap (λ (f : ℕ → Sig). f 5) start ∙ put_same (put_sig base 3 a) 5 b 5 refl in
+    subst (IsExpressed basis sources old new a b w) (sym is)
+    (subst (λ (k : Kept). IsExpressed basis sources old k.gates a b w (k.nodes w)) (sym same)
+    (placed_expresses basis sources a b (kept table old) js w small are below_a below_b first second made))
+
 -- ---- other gates
 
 -- a gate that is kept
@@ -178,8 +209,11 @@ kept_expresses basis sources old g are at member =
       operators = λ was. operators_push basis old g member was;
       below = (omega arith, omega (arith, length-append old (g ∷ [])));
       value = λ given.
+          let v : Sig → Bool = sig_value (values_of given sources old) in
+          let x : Sig → Bool = sig_value (values_of given sources new) in
           value-last given sources old g
-          ∙ rw (grown_sig sources old new g.a given grown at.first, grown_sig sources old new g.b given grown at.second) refl;
+          ∙ ap (λ (t : Bool). apply g.op t (v g.b)) (sym (grown_sig sources old new g.a given grown at.first))
+          ∙ ap (λ (t : Bool). apply g.op (x g.a) t) (sym (grown_sig sources old new g.b given grown at.second));
     }
 
 -- a signal that has the value of the operator, with no gate
@@ -217,8 +251,31 @@ zero_value true false = refl
 zero_value false true = refl
 zero_value false false = refl
 
+pub zero_expresses : (basis : Basis) (sources : ℕ) (old : List Gate) (g : Gate) (op : ℕ) → AreGates sources old → op ≡ 0 →
+    ((f : ℕ → Bool) → apply op (sig_value f g.a) (sig_value f g.b) ≡ gate_value f g) → IsExpressed basis sources old old g.a g.b g.op Zero
+zero_expresses basis sources old g op are is same =
+    signal_expresses basis sources old g Zero are tt
+    (λ f. sym (zero_value (sig_value f g.a) (sig_value f g.b)) ∙ ap (λ (x : ℕ). apply x (sig_value f g.a) (sig_value f g.b)) (sym is) ∙ same f)
+
 pub one_value : (x y : Bool) → apply 15 x y ≡ true
 one_value true true = refl
 one_value true false = refl
 one_value false true = refl
 one_value false false = refl
+
+pub one_expresses : (basis : Basis) (sources : ℕ) (old : List Gate) (g : Gate) (op : ℕ) → AreGates sources old → op ≡ 15 →
+    ((f : ℕ → Bool) → apply op (sig_value f g.a) (sig_value f g.b) ≡ gate_value f g) → IsExpressed basis sources old old g.a g.b g.op One
+one_expresses basis sources old g op are is same =
+    signal_expresses basis sources old g One are tt
+    (λ f. sym (one_value (sig_value f g.a) (sig_value f g.b)) ∙ ap (λ (x : ℕ). apply x (sig_value f g.a) (sig_value f g.b)) (sym is) ∙ same f)
+
+-- ---- the steps as a list that is read
+
+pub placed_first : (sources : ℕ) (k : Kept) (js rest : List Join) (j : Join) → js ≡ j ∷ rest → placed sources (with_join sources k j) rest ≡ placed sources k js
+unfolding placed
+placed_first sources k js rest j e = ap (placed sources k) (sym e)
+
+pub placed_none : (sources : ℕ) (k : Kept) (js : List Join) → length js ≡ 0 → k ≡ placed sources k js
+unfolding placed
+placed_none sources k [] e = refl
+placed_none sources k (j ∷ js) e = absurd (omega (arith, e))

@@ -1,9 +1,9 @@
 -- Sets of functions as numbers: one more member.
-use Rattle.std.proofs.Common.{◌≡◌, ◌≢◌, ℕ, zero, suc, ◌+◌, ◌*◌, ◌%◌, ◌^◌, ◌≤◌, ◌<◌, ◌==◌, ◌||◌, Bool, true, false, if◌then◌else◌, bit_or, max, refl, sym, ap, ◌∙◌, arith, ⊎_elim}
-use Rattle.std.proofs.lemmas.Bool.{cases_eq}
+use Rattle.std.proofs.Common.{◌≡◌, ◌≢◌, ℕ, zero, suc, ◌+◌, ◌*◌, ◌%◌, ◌^◌, ◌≤◌, ◌<◌, ◌==◌, ◌||◌, Bool, true, false, if◌then◌else◌, bit_or, max, refl, sym, ap, ◌∙◌, arith, ⊎_elim, inl, inr}
+use Rattle.std.proofs.lemmas.Bool.{cases_eq, cases_lt}
 use Rattle.std.proofs.lemmas.Grind.{common_steps}
 use Rattle.std.proofs.lemmas.Nat.{one_shl, le_or_l, or_of_16}
-use Rattle.std.proofs.lemmas.Nat.Bits.{bit_at_or, bit_at-lt, bit_at-zero, bit_at-pow_other}
+use Rattle.std.proofs.lemmas.Nat.Bits.{bit_at_or, bit_at-lt, bit_at-zero, bit_at-pow_other, bit_at_above}
 use Rattle.std.specs.Int.{bit_at}
 use Rattle.chain_theory.specs.Value.{extended}
 use Rattle.chain_theory.specs.ValueLaws.{extended-same, extended-other}
@@ -42,6 +42,16 @@ grown_below set p low small = or_of_16 set (1 * 2 ^ p % 2 ^ 16) low (omega arith
 
 pub ruleset growing = (common_steps, grown_members, grown_most, grown_below)
 
+-- a member is an operator
+pub member_low : (set p : ℕ) → set < 65536 → members set p ≡ true → p < 16
+member_low set p low is = elim (cases_lt p 16) [
+  | inl below ↦ below
+  | inr high ↦ absurd (differ (bit_at set p) (bit_at_above set 16 p low high) is)
+] where
+  differ : (b : ℕ) → b ≡ 0 → (b == 1) ≡ true → ⊥
+  differ zero e is = cc
+  differ (suc b) e is = cc
+
 -- ---- the operands
 
 none_at : (w : ℕ) → members 0 w ≡ false
@@ -54,7 +64,7 @@ two_by false true = refl
 two_by false false = refl
 
 operands_at : (w : ℕ) → extended (extended (members 0) 3 true) 5 true w ≡ operands w
-operands_at w = rw (none_at w) (two_by (w == 3) (w == 5))
+operands_at w = ap (λ (b : Bool). if w == 5 then true else (if w == 3 then true else b)) (none_at w) ∙ two_by (w == 3) (w == 5)
 
 pub both_operands : extended (extended (members 0) 3 true) 5 true ≡ operands
 both_operands = λ i w. operands_at w i

@@ -39,7 +39,8 @@ fn with_net(circuit: Circuit, new: Net) -> Circuit
 pub fn over_basis(alloc: Global, circuit: Circuit, basis: Basis) -> Result<Converted, AllocError>
     requires { IsProper circuit }
     ensures over { IfOk result (λ all. IfOver all (IsCircuitOver (members basis) circuit)) }
-    ensures cannot { IfOk result (λ all. IfCannot all (λ left node. IsInexpressibleAt (members basis) circuit.net node)) }
+    ensures cannot { IfOk result (λ all. IfCannot all (λ left node.
+        IsInexpressibleAt (members basis) circuit.net node)) }
     ensures kept { IfOk result (λ all. IfCannot all (λ left node. left ≡ circuit)) }
     ensures too_many { IfOk result (λ all. IfTooMany all (λ left. MayHaveTooMany circuit.net)) }
     ensures left { IfOk result (λ all. IfTooMany all (λ left. left ≡ circuit)) }

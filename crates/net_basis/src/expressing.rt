@@ -1,5 +1,5 @@
-//! One gate of a net over a basis. A gate with an operator of the basis stays. Any other is the chain of its operator, or
-//! of a simpler one where its operands are equal; a constant and a copy need no gate.
+//! One gate of a net over a basis. A gate with an operator of the basis stays. Any other is the chain of its operator,
+//! or of a simpler one where its operands are equal; a constant and a copy need no gate.
 ghost use Rattle.std.specs.Prelude.{◌≡◌, ◌+◌, ◌≤◌, ◌<◌, ◌^◌, ℕ, Bool, true, false, length, IfOk, OnOk, vec_len};
 ghost use Rattle.chain_theory.specs.Operator.{apply};
 ghost use Rattle.op_basis.specs.Basis.{members};
@@ -36,7 +36,10 @@ pub fn has_room(sources: u32, gates: usize, more: usize) -> bool
     ensures gates { result ≡ true → gates + more ≤ most_gates }
     ensures none { result ≡ false → more ≤ most_for_one → MayEndAt sources gates }
 {
-    gates + more <= MOST_GATES as usize && (sources as usize) + 1 + gates + more < 1 << 31
+    if gates + more > MOST_GATES as usize {
+        return false;
+    }
+    (sources as usize) + 1 + gates + more < 1 << 31
 }
 
 /// The operator that is a copy, a complement or a constant and has the values of `op` on equal operands.

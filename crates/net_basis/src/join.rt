@@ -44,7 +44,10 @@ pub fn with_function(known: Basis, function: Op) -> Basis
 pub fn operands() -> Basis
     ensures { members result ≡ operands_of }
 {
-    with_function(with_function(Basis::new(0), Op::new(3)), Op::new(5))
+    let none = Basis::new(0);
+    let first = Op::new(3);
+    let second = Op::new(5);
+    with_function(with_function(none, first), second)
 }
 
 /// Whether the step's operator is in the basis, and the functions that it reads are known.

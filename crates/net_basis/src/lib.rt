@@ -27,6 +27,7 @@ mod join;
 mod least;
 mod placing;
 mod recipe;
+mod table;
 
 pub use answer::{Converted, NetOver};
 pub use circuits::over_basis;

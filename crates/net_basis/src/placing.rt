@@ -8,6 +8,7 @@ ghost use Rattle.net_basis.specs.Joins.{operands, makes};
 ghost use Rattle.net_basis.specs.Placing.{with_join, placed, IsExpressed};
 
 use crate::join::{Join, function_of};
+use crate::table::{put, signal_of};
 use net_core::{Gate, Sig};
 use op_basis::{Basis, Op};
 use std::alloc::AllocError;
@@ -29,10 +30,10 @@ fn push_join(
     let sig = Sig::Node(sources + 1 + gates.len() as u32);
     gates.push(Gate {
         op: join.op,
-        a: at[usize::from(join.first.get())],
-        b: at[usize::from(join.second.get())],
+        a: signal_of(at, join.first),
+        b: signal_of(at, join.second),
     })?;
-    at[usize::from(function_of(join).get())] = sig;
+    put(at, function_of(join), sig);
     Ok(())
 }
 
@@ -76,9 +77,11 @@ pub fn push_chain(
     ensures expressed { IfOk result (IsExpressed (members basis) sources gates.old.items gates.new.items a b op) }
     ensures count { OnOk result (vec_len gates.new ≡ vec_len gates.old + length joins.now) }
 {
+    // for the prover: no member of the basis is above 15
+    let _members = basis.get();
     let mut at = [Sig::Zero; 16];
-    at[3] = a;
-    at[5] = b;
+    put(&mut at, Op::new(3), a);
+    put(&mut at, Op::new(5), b);
     push_joins(sources, gates, joins, &mut at)?;
-    Ok(at[usize::from(op.get())])
+    Ok(signal_of(&at, op))
 }
