@@ -1,7 +1,7 @@
 //! Tests of `improve`: netlists with cap 0, netlists that shrink, by a window and by one with a partner,
 //! netlists that settings leave unchanged, a window that stays undecided, refusals; nets that are judged,
-//! under all assignments or by a miter; walks over random windows; and moves over the graph of a net. The
-//! searches are those of `cdcl_core`.
+//! under all assignments or by a miter; walks over random windows; moves over the graph of a net; and nets
+//! whose levels are limited. The searches are those of `cdcl_core`.
 #![tactic(auto)]
 
 #[cfg(test)]
@@ -18,6 +18,8 @@ mod fanin_cones;
 mod judging;
 #[cfg(test)]
 mod lanes;
+#[cfg(test)]
+mod levels;
 #[cfg(test)]
 mod nets;
 #[cfg(test)]
