@@ -2,7 +2,7 @@
 """aigs.py PROGRAM FOLDER [--run EFFORT/SEED ..] [--abc N] NETLIST.blif ..: `improve` on AIGs, beside ABC, in AND nodes.
 
 ABC makes a binary AIGER file of each netlist in FOLDER, with all latches starting with 0. Five circuits of designs.py are
-added: ascon, divide4, multiply4, sort4x4, machine10. Each row has the AND nodes before, those of ABC's best of the first N
+added: ascon, divide4, sort4x4, alu4, machine10. Each row has the AND nodes before, those of ABC's best of the first N
 of five scripts (5), and those after each run of `improve` (0/1) with its user seconds, all as ABC counts them. ABC's `cec`
 compares each result with its source; "not shown" stands where it doesn't find them equal. The last row has the sums.
 
@@ -14,7 +14,7 @@ import sys
 import designs
 from usage import usage
 
-ADDED = ('ascon', 'divide4', 'multiply4', 'sort4x4', 'machine10')
+ADDED = ('ascon', 'divide4', 'sort4x4', 'alu4', 'machine10')
 SCRIPTS = [
     f'{designs.RESYN2}; {designs.RESYN2}',
     'dc2; dc2; dc2; dc2',

@@ -3,14 +3,14 @@
 
 The S-boxes of DES (1 to 8), PRESENT, Prince and Ascon, from netlists of multiplexers that are made of their tables, and
 sums of 7, 15 and 31 bits, from full adders. Each is improved with --effort N (300) and the seeds 1 to N (1), and the
-least result stays in FOLDER, as NAME.blif, unless a netlist as small is there already. ABC's `cec` compares the netlist
-in FOLDER with the one that was made. Each row of the table has the gates before, those after each seed with the user
-seconds, those of the netlist in FOLDER, and what ABC says of it.
+least result stays in FOLDER, as NAME.blif, unless a netlist as small is there already. ABC's `cec` and PROGRAM's `equiv`
+compare the netlist in FOLDER with the one that was made. Each row of the table has the gates before, those after each
+seed with the user seconds, those of the netlist in FOLDER, and whether both find it equal. With --seeds 0 nothing is
+improved.
 
 The tables of DES are checked by what its standard demands of them: each row is a permutation, and inputs that differ in
 one bit, or in both middle bits, have outputs that differ in two at least. Debian: berkeley-abc."""
 import os
-import re
 import resource
 import subprocess
 import sys
@@ -130,6 +130,13 @@ def gates(program, path):
     return int(report.split()[1])
 
 
+def is_equal(program, first, second):
+    """Whether ABC and `equiv` find two netlists equal."""
+    said = [subprocess.run(words, capture_output=True, text=True, check=False).stdout for words in (
+        ['berkeley-abc', '-q', f'cec -n {first} {second}'], [program, 'equiv', first, second])]
+    return 'are equivalent' in said[0] and said[1].startswith('equal')
+
+
 def row(program, folder, name, text, effort, seeds):
     """A row of the table, after the seeds were tried."""
     least, tried = f'{folder}/{name}.blif', []
@@ -144,8 +151,7 @@ def row(program, folder, name, text, effort, seeds):
             if not os.path.exists(least) or after < gates(program, least):
                 with open(out, encoding='ascii') as file, open(least, 'w', encoding='ascii') as kept:
                     kept.write(file.read())
-        said = subprocess.run(['berkeley-abc', '-q', f'cec -n {source} {least}'], capture_output=True, text=True, check=False).stdout
-    verdict = 'equal' if re.search('are equivalent', said) else 'not shown'
+        verdict = 'equal' if is_equal(program, source, least) else 'not shown'
     return f'| {name} | {before} | {", ".join(tried)} | {gates(program, least)} | {verdict} |'
 
 
@@ -162,7 +168,7 @@ def main():
         else:
             names.append(word)
     os.makedirs(folder, exist_ok=True)
-    print('| Function | made | by each seed | least | ABC |\n|---|---|---|---|---|', flush=True)
+    print('| Function | made | by each seed | least | judged |\n|---|---|---|---|---|', flush=True)
     for name, text in records():
         if not names or name in names:
             print(row(program, folder, name, text, effort, seeds), flush=True)
