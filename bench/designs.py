@@ -1,12 +1,15 @@
 #!/usr/bin/env python3
-"""designs.py PROGRAM FOLDER [--effort N ..] [DESIGN ..]: `improve` on 63 circuits in Verilog, beside ABC.
+"""designs.py PROGRAM FOLDER [--run EFFORT/SEED ..] [--half choosing|judging] [--abc N] [DESIGN ..]: `improve` on 63 circuits
+in Verilog, beside ABC.
 
 S-boxes, dividers, sorters, shifters, comparators, finite state machines, population counts, CRCs, multipliers, ALUs and so
-on, of 6 to some 6,000 gates. Yosys makes BLIF of each, in FOLDER; ABC's best is that of fourteen of its scripts, in nodes of
-two inputs over all operators. Every second design is for choosing settings, the others only judge: the last lines have
-the gates after `improve`, those of ABC's best, and the user seconds of both halves, for each effort (0).
+on, of 6 to some 2,500 gates. Yosys makes BLIF of each, in FOLDER; ABC's best is that of the first N of fourteen scripts of
+it (14), in nodes of two inputs over all operators. Every second design is for choosing settings, the others only judge.
+Each row has the gates before, ABC's best, and for each run (0/1) the gates that `improve` leaves; the last rows have the
+sums of both halves, and the user seconds.
 
-What is in FOLDER isn't made again. ABC takes minutes for the large ones. Debian: yosys, berkeley-abc.
+Each result is compared with its source by ABC's `cec`; "differs" or "open" stands where that doesn't find them equal. What
+is known stays in FOLDER and isn't made again. ABC takes minutes for the large ones. Debian: yosys, berkeley-abc.
 """
 import json
 import os
@@ -23,10 +26,24 @@ C2RS = ('balance -l; resub -K 6 -l; rewrite -l; resub -K 6 -N 2 -l; refactor -l;
 RESYN2 = 'balance; rewrite; refactor; balance; rewrite; rewrite -z; balance; refactor -z; rewrite -z; balance'
 RESYN3 = 'balance; resub; resub -K 6; balance; resub -z; resub -z -K 6; balance; resub -z -K 5; balance'
 MAPPED = 'if -K 2 -a; mfs2 -a -e -W 4 -M 500 -C 5000'
-SCRIPTS = [f'strash; dc2; dc2; {MAPPED}', f'strash; {RESYN2}; {RESYN2}; {MAPPED}', f'strash; {RESYN3}; {RESYN3}; {MAPPED}', f'strash; {C2RS}; {MAPPED}', f'strash; {C2RS}; dch; {MAPPED}',
-           '; '.join([f'strash; {C2RS}; dch; {MAPPED}'] * 4), f'strash; dch; {MAPPED}', f'strash; &get -n; &syn3; &syn3; &syn3; &put; {MAPPED}', f'strash; &get -n; &syn4; &syn4; &put; {MAPPED}',
-           f'strash; &get -n; &dch -x; &put; {MAPPED}', f'strash; &get -n; &deepsyn -T 4; &put; {MAPPED}', f'strash; {C2RS}; &get -n; &deepsyn -T 4; &put; {MAPPED}',
-           '; '.join([f'strash; dc2; dch; {MAPPED}'] * 6), f'strash; fx; strash; {C2RS}; {C2RS}; dch; {MAPPED}']
+SCRIPTS = [
+    f'strash; {RESYN2}; {RESYN2}; {MAPPED}',
+    f'strash; dc2; dc2; {MAPPED}',
+    f'strash; {RESYN3}; {RESYN3}; {MAPPED}',
+    f'strash; {C2RS}; {MAPPED}',
+    f'strash; dch; {MAPPED}',
+    f'strash; {C2RS}; dch; {MAPPED}',
+    f'strash; &get -n; &dch -x; &put; {MAPPED}',
+    f'strash; &get -n; &syn3; &syn3; &syn3; &put; {MAPPED}',
+    f'strash; &get -n; &syn4; &syn4; &put; {MAPPED}',
+    '; '.join([f'strash; dc2; dch; {MAPPED}'] * 6),
+    '; '.join([f'strash; {C2RS}; dch; {MAPPED}'] * 4),
+    f'strash; fx; strash; {C2RS}; {C2RS}; dch; {MAPPED}',
+    f'strash; &get -n; &deepsyn -T 4; &put; {MAPPED}',
+    f'strash; {C2RS}; &get -n; &deepsyn -T 4; &put; {MAPPED}',
+]
+# `&deepsyn` calls it, and Debian's ABC has no file of aliases.
+ALIAS = f'alias compress2rs "{C2RS}"'
 
 
 def table(name, inputs, outputs, values):
@@ -174,63 +191,97 @@ def made(folder, name, text):
     return blif
 
 
-def best(folder, name, blif):
-    """The fewest nodes by ABC's scripts, or None."""
-    kept = f'{folder}/{name}.abc'
-    if os.path.exists(kept):
-        with open(kept, encoding='utf-8') as file:
-            return json.load(file)
-    least = None
-    for script in SCRIPTS:
-        words = ['berkeley-abc', '-q', f'read_blif {blif}; {script}; print_stats']
-        try:
-            said = subprocess.run(words, capture_output=True, text=True, timeout=300).stdout
-        except subprocess.TimeoutExpired:
-            continue
-        found = re.findall(r'nd\s*=\s*(\d+)', re.sub(r'\x1b\[[0-9;]*m', '', said))
-        if found and (least is None or int(found[-1]) < least):
-            least = int(found[-1])
-    with open(kept, 'w', encoding='utf-8') as file:
-        json.dump(least, file)
-    return least
+def known(folder, name):
+    """What was measured of a design before."""
+    path = f'{folder}/{name}.json'
+    if not os.path.exists(path):
+        return {}
+    with open(path, encoding='utf-8') as file:
+        return json.load(file)
 
 
-def improved(program, blif, effort):
-    """The gates after `improve`, and its user seconds."""
+def kept(folder, name, values):
+    with open(f'{folder}/{name}.json', 'w', encoding='utf-8') as file:
+        json.dump(values, file)
+
+
+def run(words, limit=300):
+    """What a program writes, and its user seconds."""
     before = resource.getrusage(resource.RUSAGE_CHILDREN).ru_utime
-    with open(blif, 'rb') as file:
-        run = subprocess.run([program, 'improve', '--effort', effort], stdin=file, capture_output=True, check=True)
+    last = lambda: resource.setrlimit(resource.RLIMIT_CPU, (limit, limit + 1))
+    done = subprocess.run(words, capture_output=True, text=True, preexec_fn=last, check=False)
     used = resource.getrusage(resource.RUSAGE_CHILDREN).ru_utime - before
-    return int(run.stderr.split(b'\n')[0].split()[-1]), used
+    return re.sub(r'\x1b\[[0-9;]*m', '', done.stdout), done.stderr, used
+
+
+def best(blif, values, count):
+    """The fewest nodes by ABC's first `count` scripts, or None; a script that fails or takes 300 seconds counts as none."""
+    found = values.setdefault('abc', [])
+    for script in SCRIPTS[len(found):count]:
+        said, _, used = run(['berkeley-abc', '-q', f'{ALIAS}; read_blif {blif}; {script}; print_stats'])
+        nodes = re.findall(r'nd\s*=\s*(\d+)', said)
+        found.append([int(nodes[-1]) if nodes else None, used])
+    return min((nodes for nodes, _ in found[:count] if nodes is not None), default=None)
+
+
+def improved(program, blif, words):
+    """The gates before and after `improve`, its user seconds, and whether ABC finds the result equal."""
+    effort, seed = words.split('/')
+    less = blif.replace('.blif', f'.{effort}.{seed}.less.blif')
+    _, report, used = run([program, 'improve', '--effort', effort, '--seed', seed, blif, '-o', less], 3600)
+    before, after = (int(word) for word in report.split()[1:4:2])
+    said, _, _ = run(['berkeley-abc', '-q', f'cec -n {blif} {less}'])
+    verdict = 'equal' if 'are equivalent' in said else 'differs' if 'NOT EQUIVALENT' in said else 'open'
+    return before, after, used, verdict
+
+
+def measured(program, folder, name, text, runs, count):
+    """The gates of a design before, by ABC, and after each run: values and their text."""
+    blif, values = made(folder, name, text), known(folder, name)
+    least = best(blif, values, count)
+    kept(folder, name, values)
+    for words in runs:
+        if words not in values:
+            values[words] = improved(program, blif, words)
+            kept(folder, name, values)
+    return least, [values[words] for words in runs]
+
+
+def options(words):
+    """The runs, the half, the count of ABC's scripts, and the names."""
+    runs, names, half, count = [], [], None, len(SCRIPTS)
+    while words:
+        word = words.pop(0)
+        if word == '--run' and words:
+            runs.append(words.pop(0))
+        elif word == '--half' and words:
+            half = words.pop(0)
+        elif word == '--abc' and words:
+            count = int(words.pop(0))
+        else:
+            names.append(word)
+    return runs or ['0/1'], half, count, names
 
 
 def main():
     usage(__doc__, 2)
     program, folder, *words = sys.argv[1:]
-    efforts, names = [], []
-    while words:
-        word = words.pop(0)
-        if word == '--effort' and words:
-            efforts.append(words.pop(0))
-        else:
-            names.append(word)
+    runs, half, count, names = options(words)
     os.makedirs(folder, exist_ok=True)
+    print(f'| Circuit | gates | ABC | {" | ".join(runs)} |\n|---|---|---|{"---|" * len(runs)}', flush=True)
     sums = {}
     for place, (name, text) in enumerate(designs()):
-        if names and name not in names:
+        kind = 'judging' if place % 2 else 'choosing'
+        if names and name not in names or half not in (None, kind):
             continue
-        blif = made(folder, name, text)
-        least = best(folder, name, blif)
-        row = f'{name:12} {least}'
-        for effort in efforts or ['0']:
-            gates, used = improved(program, blif, effort)
-            row += f' {gates} {used:.2f}'
-            of = sums.setdefault((effort, place % 2), [0, 0, 0.0])
-            for k, value in enumerate((gates, least or gates, used)):
-                of[k] += value
-        print(row, flush=True)
-    for (effort, judging), (gates, least, used) in sorted(sums.items()):
-        print(f'effort {effort}, {"judging" if judging else "choosing"}: {gates} gates, ABC {least}, {used:.1f} s')
+        least, results = measured(program, folder, name, text, runs, count)
+        shown = [f'{after}' if verdict == 'equal' else f'{after} {verdict}' for _, after, _, verdict in results]
+        print(f'| {name} | {results[0][0]} | {least or "-"} | {" | ".join(shown)} |', flush=True)
+        row = [results[0][0], least or 0] + [value for _, after, used, _ in results for value in (after, used)]
+        sums[kind] = [one + other for one, other in zip(sums.get(kind, [0] * len(row)), row)]
+    for kind, (before, least, *left) in sorted(sums.items()):
+        shown = [f'{after}, {used:.1f} s' for after, used in zip(left[::2], left[1::2])]
+        print(f'| sum, {kind} | {before} | {least or "-"} | {" | ".join(shown)} |')
 
 
 if __name__ == '__main__':
