@@ -49,7 +49,8 @@ fn run_wish<W: Outside, S: Source, O: Sink, N: Sink, T: Tell>(
     serve_outputs(alloc, &reading, &wish.line, outside, source, out, note)
 }
 
-/// Improves the netlist of a line by its wishes; where there is no answer, a line for people comes after the error line.
+/// Improves the netlist of a line by its wishes; where there is no answer, a line for people comes after the error
+/// line.
 #[tactic(auto, using(crate::proofs::Runs::runs))]
 pub fn serve_wish<W: Outside, S: Recalls, O: Sink, N: Retells, R: Rereads, T: Tell>(
     alloc: Global,
