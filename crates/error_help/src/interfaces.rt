@@ -2,7 +2,7 @@
 
 use crate::expected::Subject;
 use crate::explaining::{Input, Inputs};
-use crate::naming::{Latch, List, Named, is_same_name, kind_of, named, push_named, word_of};
+use crate::naming::{Latch, List, Named, is_same_name, kind_of, plain_name, push_named, word_of};
 use crate::other_names::{aiger_names, bench_names};
 use crate::tokens::{goes_on, without_comment};
 use help_text::{Part, push_parts, push_quoted};
@@ -56,7 +56,7 @@ fn push_names<'a>(
             break;
         }
         if name != b"\\".as_slice() {
-            names.push(named(name, line))?;
+            names.push(plain_name(name, line))?;
         }
         left = rest;
     }

@@ -40,7 +40,7 @@ pub(crate) fn word_of(line: &[u8]) -> (&[u8], &[u8]) {
 }
 
 /// A name with nothing else.
-pub(crate) fn named(name: &[u8], line: u32) -> Named<'_> {
+pub(crate) fn plain_name(name: &[u8], line: u32) -> Named<'_> {
     Named {
         name,
         number: None,

@@ -1,6 +1,6 @@
 //! The names of interfaces in BENCH and AIGER.
 
-use crate::naming::{List, Named, letter_of, named, word_of};
+use crate::naming::{List, Named, letter_of, plain_name, word_of};
 use crate::tokens::{Separators, next_token, without_comment};
 use std::alloc::{AllocError, Global};
 use text_core::{next_line, number_up_to};
@@ -45,7 +45,7 @@ pub(crate) fn bench_names(
         number = number.saturating_add(1);
         let name = bench_name(list, line);
         if !name.is_empty() {
-            names.push(named(name, number))?;
+            names.push(plain_name(name, number))?;
         }
         left = rest;
     }
