@@ -1,4 +1,4 @@
-//! The front for `improve` by wishes: `improve --only yes`, `improve --levels tell`, and AIGER in the form that the name
+//! The front for `improve` by wishes: `improve --levels tell`, and AIGER in the form that the name
 //! of `-o` ends with.
 //!
 //! `wish_line` reads what words wish (`wish_words`), and `serve_wish` runs the command `ImproveWished` of `cmd_wishes`
