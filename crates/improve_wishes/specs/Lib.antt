@@ -1,8 +1,4 @@
-pub mod Based
-pub mod BasedLaws
 pub mod LevelsReport
 pub mod TellingLaws
-pub mod TextLaws
-pub mod Texts
 pub mod Wished
 pub mod WishedLaws

@@ -27,8 +27,6 @@ pub enum FormAsked {
 /// What is wished of the netlist that is written.
 #[derive(Clone, Copy, PartialEq, Eq)]
 pub struct Wishes {
-    /// Whether its gates have operators of the basis and no others.
-    pub only: bool,
     pub levels: LevelsAsked,
     pub form: FormAsked,
 }

@@ -1,4 +1,4 @@
-//! Tests of netlists that are improved by wishes: over NAND or XOR alone, with the levels before and after.
+//! Tests of netlists that are improved by wishes: the levels before and after.
 #![tactic(auto)]
 
 #[cfg(test)]

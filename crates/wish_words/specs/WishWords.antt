@@ -1,7 +1,7 @@
 -- What the words of `improve` wish of the netlist that it writes, and the words without these wishes.
 use Rattle.std.specs.Prelude.{ℕ, List, [], ◌∷◌, ◌++◌, Bool, true, false, Option, Some, None, codes, if◌then◌else◌}
 use Rattle.text_core.specs.Numbers.{number_up_to}
-use Rattle.command_line.specs.Options.{is_word, flag_in}
+use Rattle.command_line.specs.Options.{is_word}
 use Rattle.command_line.specs.CommandLine.{word_after, is_named}
 use Rattle.file_words.specs.Formats.{ends_with}
 use Rattle.file_words.specs.Sorting.{Line}
@@ -17,11 +17,6 @@ abbrev pub most_levels : ℕ
 most_levels = 1000000
 
 -- ---- the values of options; None: the word is no value
-
--- `--only yes` or `no`, by default `no`
-abbrev pub only_in : Option (List ℕ) → Option Bool
-only_in None = Some false
-only_in (Some word) = flag_in word
 
 abbrev pub most_in : Option ℕ → Option LevelsAsked
 most_in None = None
@@ -51,18 +46,17 @@ is_asked form = true
 
 -- a wish is named
 abbrev pub names_wish : List (List ℕ) → FormAsked → Bool
-names_wish options form = if is_named (codes "--only") options then true
-    else (if is_named (codes "--levels") options then true else is_asked form)
+names_wish options form = if is_named (codes "--levels") options then true else is_asked form
 
-abbrev pub wishes_from : Option Bool → Option LevelsAsked → FormAsked → Option Wishes
-wishes_from (Some only) (Some levels) form = Some (record { only = only; levels = levels; form = form })
-wishes_from only levels form = None
+abbrev pub wishes_from : Option LevelsAsked → FormAsked → Option Wishes
+wishes_from (Some levels) form = Some (record { levels = levels; form = form })
+wishes_from None form = None
 
 -- the wishes of options; None: there are none, or a value is none
 abbrev pub wishes_in : List (List ℕ) → FormAsked → Option Wishes
 wishes_in options form =
     if names_wish options form then
-    wishes_from (only_in (word_after (codes "--only") options)) (levels_in (word_after (codes "--levels") options)) form
+    wishes_from (levels_in (word_after (codes "--levels") options)) form
     else None
 
 -- ---- the words without wishes
@@ -74,7 +68,7 @@ without option (name ∷ []) = name ∷ []
 without option (name ∷ word ∷ words) = if is_word option name then words else name ∷ word ∷ without option words
 
 abbrev pub without_wishes : List (List ℕ) → List (List ℕ)
-without_wishes options = without (codes "--levels") (without (codes "--only") options)
+without_wishes options = without (codes "--levels") options
 
 -- `improve` of AIGER is that of BLIF to `command_line`, over the gates of AIGER.
 abbrev pub plain_options : Bool → List (List ℕ) → List (List ℕ)

@@ -37,10 +37,8 @@ fn push_without(
 fn without_wishes(alloc: Global, options: &[String]) -> Result<Vec<String>, AllocError>
     ensures { IfOk result (λ words. spelled words ≡ spec.without_wishes (map string_bytes options.now)) }
 {
-    let mut without_only = Vec::new(alloc);
-    push_without(alloc, &mut without_only, b"--only", options)?;
     let mut words = Vec::new(alloc);
-    push_without(alloc, &mut words, b"--levels", &without_only)?;
+    push_without(alloc, &mut words, b"--levels", options)?;
     Ok(words)
 }
 
