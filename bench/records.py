@@ -89,7 +89,7 @@ def box(values, bits):
 
 
 def total(bits):
-    """How many of the bits are true, by full adders: three bits of one weight become one of it and one of twice it."""
+    """How many of the bits (2^k - 1 of them) are true, by full adders of five gates; the output y0 is the least bit."""
     tables, inputs, outputs = Tables(), [f'x{k}' for k in range(bits)], []
     here = list(inputs)
     while here:
