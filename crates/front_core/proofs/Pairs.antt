@@ -1,5 +1,5 @@
 -- The comparison of two texts.
-use Rattle.std.specs.Prelude.{◌≡◌, ℕ, ◌<◌, ◌≤◌, List, length, Option, Some, Err, IsErrOf, refl}
+use Rattle.std.specs.Prelude.{◌≡◌, ℕ, ◌<◌, ◌≤◌, List, [], length, Option, Some, Err, IsErrOf, refl}
 use Rattle.std.proofs.Common.{inl, inr}
 use Rattle.std.proofs.lemmas.Grind.{common_steps}
 use Rattle.port_io.specs.Faults.{Rose}
@@ -46,10 +46,11 @@ done_refused second compares state input input' source out note note' status err
 done_compared : (second : Option (List ℕ)) (compares : Compares) (files : Files) (input input' : PortState)
     (source out note : Pass) (status : Status) (text : List ℕ) →
     ((bytes : List ℕ) → input.bytes ≡ Some bytes → text ≡ bytes) → length text ≤ most_of_netlist →
+    ((bytes : List ℕ) → input.bytes ≡ Some bytes → input'.bytes ≡ Some []) → input'.faults ≡ input.faults →
     IsRead second (IsApart (compares text)) files source out note status →
     IsFirstDone second compares files (input, input') source out note status
-done_compared second compares files input input' source out note status text whole within rest =
-    inr (record { text = text; read = record { whole = whole; within = within }; rest = rest })
+done_compared second compares files input input' source out note status text whole within end faultless rest =
+    inr (record { text = text; read = record { whole = whole; within = within; to_end = record { end = end; faultless = faultless } }; rest = rest })
 
 pub standard_refused : {T : Type 0} (second : Option (List ℕ)) (compares : Compares) (state : FilesState)
     (source source' out note note' : PortState) (status : Status) (error : ReadError) →
@@ -65,11 +66,12 @@ standard_refused second compares state source source' out note note' status erro
 pub standard_compared : (second : Option (List ℕ)) (compares : Compares) (files : Files)
     (source between source' : PortState) (out note : Pass) (status : Status) (text : List ℕ) →
     ((bytes : List ℕ) → source.bytes ≡ Some bytes → text ≡ bytes) → length text ≤ most_of_netlist →
+    ((bytes : List ℕ) → source.bytes ≡ Some bytes → between.bytes ≡ Some []) → between.faults ≡ source.faults →
     IsRead second (IsApart (compares text)) files (between, source') out note status →
     IsFirstStandard second compares files (source, source') out note status
-standard_compared second compares files source between source' out note status text whole within rest = record {
+standard_compared second compares files source between source' out note status text whole within end faultless rest = record {
   between = between;
-  does = done_compared second compares files source between (between, source') out note status text whole within rest;
+  does = done_compared second compares files source between (between, source') out note status text whole within end faultless rest;
 }
 
 pub ruleset standard = (common_steps, standard_refused, standard_compared)
@@ -86,10 +88,11 @@ input_refused second compares state input input' source out note note' status er
 pub input_compared : (second : Option (List ℕ)) (compares : Compares) (files : Files) (input input' : PortState)
     (source out note : Pass) (status : Status) (text : List ℕ) →
     ((bytes : List ℕ) → input.bytes ≡ Some bytes → text ≡ bytes) → length text ≤ most_of_netlist →
+    ((bytes : List ℕ) → input.bytes ≡ Some bytes → input'.bytes ≡ Some []) → input'.faults ≡ input.faults →
     IsRead second (IsApart (compares text)) files source out note status →
     IsFirstDone second compares files (input, input') source out note status
-input_compared second compares files input input' source out note status text whole within rest =
-    done_compared second compares files input input' source out note status text whole within rest
+input_compared second compares files input input' source out note status text whole within end faultless rest =
+    done_compared second compares files input input' source out note status text whole within end faultless rest
 
 pub ruleset reading = (common_steps, input_refused, input_compared)
 

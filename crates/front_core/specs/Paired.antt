@@ -8,17 +8,18 @@ use Rattle.frame_core.specs.declared.status.Status.{Status}
 use Rattle.frame_core.specs.declared.status.Status.TheVariants as statuses
 use Rattle.frame_core.specs.Outside.{PortState, Writes}
 use Rattle.frame_core.specs.Reported.{Field, Word, error_line, memory}
-use Rattle.frame_core.specs.Run.{IsWhole}
+use Rattle.frame_core.specs.Run.{IsWhole, IsReadToEnd}
 use Rattle.file_io.specs.Names.{Shows}
 use Rattle.file_io.specs.Files.{FilesState, Files, IsUnchanged}
 use Rattle.file_io.specs.Served.{Pass, IsApart, IsUnread, IsRead}
 
 -- ---- the first text
 
--- All bytes of the source, at most as many as are read.
+-- All bytes of the source, at most as many as are read: it is at its end, and no call failed.
 pub record IsTextRead (source : Pass) (text : List ℕ) : Type 0 where
   pub whole : IsWhole source.0.bytes text
   pub within : length text ≤ most_of_netlist
+  pub to_end : IsReadToEnd source.0 source.1
 
 -- What a failed read says of the source: a call failed; it has more bytes than are read.
 abbrev pub HasCause : Pass → ReadError → Type 0

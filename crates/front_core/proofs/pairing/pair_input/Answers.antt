@@ -17,4 +17,5 @@ returns g c =
     (before_after g.O.Sink.written g.O.Sink.faults c.args.out.now c.read_input.new.out)
     (before_after g.N.Sink.written g.N.Sink.faults c.args.note.now c.read_input.new.note)
     c.read_input.result c.in-Ok.text.items c.in-Ok.ensures.all
-    (subst (λ (n : ℕ). n ≤ most_of_netlist) c.in-Ok.text.ok.0 c.in-Ok.ensures.within) c.read_input.ensures
+    (subst (λ (n : ℕ). n ≤ most_of_netlist) c.in-Ok.text.ok.0 c.in-Ok.ensures.within)
+    c.in-Ok.ensures.to_the_end (c.in-Ok.ensures.faultless (λ of. cc)) c.read_input.ensures
