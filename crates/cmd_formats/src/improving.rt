@@ -4,7 +4,7 @@ ghost use Rattle.net_theory.specs.Limits.{most_of_netlist};
 ghost use Rattle.settings.specs.Improve.{IsInRange};
 ghost use Rattle.equiv_run.specs.Two.{is_bare as is_bare_of};
 ghost use Rattle.frame_core.specs.Views.{Judges};
-ghost use Rattle.aiger_binary.specs.Ascii.{ascii_in};
+ghost use Rattle.aiger_binary.specs.Ascii.{is_binary as is_binary_of, ascii_in};
 ghost use Rattle.cmd_formats.specs.AigerReport.{aiger_task, has_and_gates as has_and_gates_of, HasAndGates};
 
 use aiger_binary::is_binary;
@@ -35,6 +35,7 @@ pub fn has_and_gates(basis: Basis) -> bool
 /// The answer in the form of the text that was read.
 fn formed(alloc: Global, bytes: &[u8], improved: ImprovedText) -> Result<ImprovedText, AllocError>
     ensures text { IfOk result (λ i. ascii_in i.text.items ≡ ascii_in improved.text.items) }
+    ensures same { IfOk result (λ i. is_binary_of bytes.now ≡ false → i.text.items ≡ improved.text.items) }
     ensures report { IfOk result (λ i. i.report.items ≡ improved.report.items) }
 {
     if !is_binary(bytes) {

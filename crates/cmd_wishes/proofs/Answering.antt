@@ -19,8 +19,6 @@ use Rattle.format_names.specs.declared.formats.NetFormat.TheVariants.{Blif, Benc
 use Rattle.net_formats.specs.Formats.{format_of}
 use Rattle.settings.specs.declared.improve.ImproveSettings.{ImproveSettings}
 use Rattle.wish_names.specs.declared.wishes.Wishes.{Wishes}
-use Rattle.wish_names.specs.declared.wishes.FormAsked.{FormAsked}
-use Rattle.wish_names.specs.declared.wishes.FormAsked.TheVariants.{Given, Ascii, Binary}
 use Rattle.equiv_run.specs.Two.{is_bare}
 use Rattle.improve_wishes.specs.Wished.{IsWished}
 use Rattle.frame_core.specs.Reported.{Reply, Refusal}
@@ -43,16 +41,10 @@ plain : (settings : ImproveSettings) (w : Wishes) (bytes text report : List ℕ)
     IsWished aiger_forms settings w bytes text report → is_binary text ≡ false
 plain settings w bytes text report is = ap is_binary is.spelled ∙ circuit_plain is.circuit
 
-in_form : (form : FormAsked) (bytes text answer : List ℕ) (binary : Bool) → binary ≡ wants_binary Aiger form bytes →
-    is_binary text ≡ false → (binary ≡ false → answer ≡ text) → IsInForm Aiger form answer
-in_form Given bytes text answer binary is plain same = tt
-in_form Ascii bytes text answer binary is plain same = ap is_binary (same is) ∙ plain
-in_form Binary bytes text answer binary is plain same = tt
-
 wished_as : (format : NetFormat) (settings : ImproveSettings) (w : Wishes) (bytes text answer report : List ℕ)
     (binary : Bool) → IsWished (format_of format) settings w bytes text report →
     binary ≡ wants_binary format w.form bytes → ascii_in answer ≡ ascii_in text → (binary ≡ false → answer ≡ text) →
-    IsWished (format_of format) settings w bytes (plain_text format answer) report × IsInForm format w.form answer
+    IsWished (format_of format) settings w bytes (plain_text format answer) report × IsInForm format w.form bytes answer
 wished_as Blif settings w bytes text answer report binary is wants stands same =
     (subst (λ (t : List ℕ). IsWished (format_of Blif) settings w bytes t report) (sym (same wants)) is, tt)
 wished_as Bench settings w bytes text answer report binary is wants stands same =
@@ -61,7 +53,7 @@ wished_as Aiger settings w bytes text answer report binary is wants stands same 
     let in_ascii = plain settings w bytes text report is in (
       subst (λ (t : List ℕ). IsWished aiger_forms settings w bytes t report)
           (sym (stands ∙ ascii_plain text in_ascii)) is,
-      in_form w.form bytes text answer binary wants in_ascii same,
+      λ ascii. ap is_binary (same (wants ∙ ascii)) ∙ in_ascii,
     )
 
 -- ---- replies

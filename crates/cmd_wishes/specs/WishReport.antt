@@ -36,10 +36,10 @@ plain_text Blif text = text
 plain_text Bench text = text
 plain_text Aiger text = ascii_in text
 
--- Where the ASCII form is wished for, the answer has it.
-abbrev pub IsInForm : NetFormat → FormAsked → List ℕ → Type 0
-IsInForm Aiger forms.Ascii text = is_binary text ≡ false
-IsInForm format form text = Unit {0}
+-- Where the ASCII form is wished for, the answer has it, and so it does to an ASCII file where no form is wished for.
+abbrev pub IsInForm : NetFormat → FormAsked → List ℕ → List ℕ → Type 0
+IsInForm Aiger form bytes text = wants_binary_form form bytes ≡ false → is_binary text ≡ false
+IsInForm format form bytes text = Unit {0}
 
 -- ---- answers
 
@@ -49,7 +49,7 @@ pub record IsWishAnswer (format : NetFormat) (settings : ImproveSettings) (w : W
   pub within : length bytes ≤ most_of_netlist
   pub said : is_bare bytes ≡ false
   pub wished : IsWished (format_of format) settings w bytes (plain_text format i.text) i.report
-  pub form : IsInForm format w.form i.text
+  pub form : IsInForm format w.form bytes i.text
 
 -- ---- faults
 

@@ -4,16 +4,17 @@ use Rattle.port_io.specs.Faults.{Rose}
 use Rattle.format_names.specs.declared.formats.FormatPair.{FormatPair}
 use Rattle.frame_core.specs.declared.status.Status.{Status}
 use Rattle.frame_core.specs.declared.status.Status.TheVariants.{Done, Undecided, WriteFault}
-use Rattle.frame_core.specs.Outside.{PortState, Writes}
+use Rattle.frame_core.specs.Outside.{PortState, IsFaultless, Writes}
 use Rattle.file_io.specs.Served.{Pass}
 use Rattle.front_core.specs.Asked.{IsNotPlain}
 use Rattle.front_core.specs.Front.{Promises, FrontRun, front_run}
 use Rattle.front_at.specs.AtRuns.{IsServed}
 use Rattle.front_guide.specs.Words.{asks_for_page}
 
--- A page was written to the output: all of it, or a call failed.
+-- A page was written to the output and no call failed, or one did.
 abbrev pub IsPageStatus : Pass → Status → Type 0
-IsPageStatus out status = (status ≡ Done) ⊎ ((status ≡ WriteFault) × Rose out.0.faults out.1.faults)
+IsPageStatus out status =
+    ((status ≡ Done) × IsFaultless out.0 out.1) ⊎ ((status ≡ WriteFault) × Rose out.0.faults out.1.faults)
 
 -- The words, which are no command line as they are, ask for a page, and one went to the output. Nothing else happened.
 pub record IsPaged (r : FrontRun) : Type 0 where
