@@ -7,7 +7,7 @@ use Rattle.std.proofs.Common.{drop, take}
 use Rattle.net_theory.specs.declared.data.Sig.{Sig}
 use Rattle.net_theory.specs.declared.data.Sig.TheVariants.{Zero, One, Node}
 use Rattle.net_theory.specs.declared.data.Gate.{Gate}
-use Rattle.net_theory.specs.Document.{Name, Latch, latch_output}
+use Rattle.net_theory.specs.Document.{Name, is_same, Latch, latch_output}
 use Rattle.net_theory.specs.Net.{Net}
 use Rattle.net_theory.specs.Circuit.{Circuit}
 use Rattle.aiger_text.specs.declared.file.Reset.{Reset}
@@ -18,6 +18,8 @@ use Rattle.aiger_text.specs.declared.file.PortKind.{PortKind}
 use Rattle.aiger_text.specs.declared.file.PortKind.TheVariants as kinds
 use Rattle.aiger_text.specs.declared.file.Symbol.{Symbol}
 use Rattle.aiger_text.specs.File.{AigFile}
+use Rattle.aiger_text.specs.Naming.{numbered}
+use Rattle.aiger_text.specs.Spelling.{kind_byte}
 
 -- ---- literals
 
@@ -130,10 +132,20 @@ latches_from node (l ∷ ls) [] = []
 latches_from node (l ∷ ls) (next ∷ nexts) = record { literal = node * 2; next = next; reset = reset_of l.init } ∷
     latches_from (node + 1) ls nexts
 
+-- the name that the reader gives an input, a latch or an output without a symbol
+-- Example: that of the first input is `i0`.
+abbrev pub default_name : PortKind → ℕ → Name
+default_name kind at = numbered (kind_byte kind ∷ []) at
+
+-- the symbol of a name at a position; none if it is the name that the reader gives without one
+unfoldable pub symbol_of : PortKind → ℕ → Name → List Symbol
+symbol_of kind at n = if is_same n (default_name kind at) then []
+    else record { kind = kind; position = at; name = n } ∷ []
+
 -- the symbols of names, the first of which has the position `at`
 unfoldable pub symbols_from : PortKind → ℕ → List Name → List Symbol
 symbols_from kind at [] = []
-symbols_from kind at (n ∷ ns) = record { kind = kind; position = at; name = n } ∷ symbols_from kind (at + 1) ns
+symbols_from kind at (n ∷ ns) = symbol_of kind at n ++ symbols_from kind (at + 1) ns
 
 -- ---- circuits
 
@@ -149,6 +161,6 @@ file_by c m sinks = record {
 }
 
 -- The file of a circuit: the inputs have the literals 2, 4 and so on, then come the latches and the gates, in the order
--- of their nodes. All inputs, latches and outputs have symbols.
+-- of their nodes. Inputs, latches and outputs have symbols, except where the reader gives their names without one.
 unfoldable pub file_of : Circuit → AigFile
 file_of c = file_by c (mapped c.net) (map (sig_literal (mapped c.net).literals) c.net.sinks)

@@ -1,22 +1,23 @@
 -- The file of a circuit that can be written is one that can be spelled.
 use Rattle.std.proofs.Common.{◌≡◌, ℕ, zero, suc, ◌+◌, ◌*◌, ◌%◌, ◌≤◌, ◌<◌, List, [], ◌∷◌, ◌++◌, length, map, drop, take, refl, ap, ◌∙◌, sym, subst, arith, length-append}
 use Rattle.std.specs.Prelude.{◌==◌, nat_le, All, Some, slice_get, slice_index_or}
-use Rattle.std.proofs.lemmas.Bool.{and_from, le-leb, eq-eqb}
+use Rattle.std.proofs.lemmas.Bool.{and_from, cond_both, le-leb, eq-eqb}
 use Rattle.std.proofs.lemmas.List.{length-map, length-drop}
 use Rattle.std.proofs.lemmas.List.Elements.{All-nil, All-cons, All-head, All-tail, All-append}
 use Rattle.net_theory.specs.declared.data.Sig.{Sig}
 use Rattle.net_theory.specs.Net.{IsSigBelow, end_of}
 use Rattle.net_theory.specs.NameLaws.{all_at, at_all}
-use Rattle.net_theory.specs.Document.{Name, IsName, Latch, latch_output}
+use Rattle.net_theory.specs.Document.{Name, IsName, is_same, Latch, latch_output}
 use Rattle.net_theory.specs.Circuit.{Circuit, sources_of}
 use Rattle.net_theory.specs.WellFormed.{IsLatch}
 use Rattle.aiger_text.specs.declared.file.Counts.{Counts}
 use Rattle.aiger_text.specs.declared.file.AigGate.{AigGate}
 use Rattle.aiger_text.specs.declared.file.PortKind.{PortKind}
 use Rattle.aiger_text.specs.declared.file.PortKind.TheVariants as kinds
+use Rattle.aiger_text.specs.declared.file.Symbol.{Symbol}
 use Rattle.aiger_text.specs.Statements.{is_variable, count_of}
 use Rattle.aiger_text.specs.Valid.{counts_of, IsLiteral, IsVariable, IsLatchAt, IsGateAt, IsSymbolAt, AreCounts, IsAig}
-use Rattle.aiger_core.specs.Written.{sig_literal, Mapped, even_from, mapped, reset_of, latches_from, symbols_from, file_by, file_of}
+use Rattle.aiger_core.specs.Written.{sig_literal, Mapped, even_from, mapped, reset_of, latches_from, default_name, symbol_of, symbols_from, file_by, file_of}
 use Rattle.aiger_laws.specs.Writable.{IsFreeName, IsAndGate, CanWriteAiger}
 use Rattle.aiger_laws.proofs.MappedShape.{IsGateOf, IsShaped, sig_bounded, AreAndsAt, mapped_shaped}
 
@@ -130,13 +131,21 @@ gates_are c s gs high each = at_all (IsGateAt c) gs (λ i g at.
 
 -- ---- symbols
 
+symbol_is : (c : Counts) (kind : PortKind) (k : ℕ) (n : Name) → k < count_of c kind → IsName n → IsFreeName n → All (IsSymbolAt c) (symbol_of kind k n)
+unfolding symbol_of
+symbol_is c kind k n low is free =
+    let s : Symbol = record { kind = kind; position = k; name = n } in
+    cond_both (is_same n (default_name kind k)) [] (s ∷ []) (All (IsSymbolAt c))
+    (λ same. All-nil (IsSymbolAt c))
+    (λ other. All-cons (IsSymbolAt c) s [] (record { name = is; free = free; low = low }) (All-nil (IsSymbolAt c)))
+
 symbols_are : (c : Counts) (kind : PortKind) (k : ℕ) (ns : List Name) → k + length ns ≤ count_of c kind → All IsName ns → All IsFreeName ns →
     All (IsSymbolAt c) (symbols_from kind k ns)
 unfolding symbols_from
 symbols_are c kind k [] high all free = All-nil (IsSymbolAt c)
 symbols_are c kind k (n ∷ ns) high all free =
-    All-cons (IsSymbolAt c) (record { kind = kind; position = k; name = n }) (symbols_from kind (k + 1) ns)
-    (record { name = All-head IsName n ns all; free = All-head IsFreeName n ns free; low = omega (arith, high) })
+    All-append (IsSymbolAt c) (symbol_of kind k n) (symbols_from kind (k + 1) ns)
+    (symbol_is c kind k n (omega (arith, high)) (All-head IsName n ns all) (All-head IsFreeName n ns free))
     (symbols_are c kind (k + 1) ns (omega (arith, high)) (All-tail IsName n ns all) (All-tail IsFreeName n ns free))
 
 latch_names_are : (ls : List Latch) → All IsLatch ls → All IsName (map latch_output ls)

@@ -1,16 +1,18 @@
 -- The names of a written file are those of its circuit.
 use Rattle.std.proofs.Common.{◌≡◌, ℕ, zero, suc, ◌+◌, ◌*◌, ◌/◌, true, false, List, [], ◌∷◌, ◌++◌, length, map, refl, ap, ◌∙◌, sym, subst, arith, append_assoc, append-nil, length-append}
 use Rattle.std.specs.Prelude.{codes, slice_set, slice_index_or}
-use Rattle.std.proofs.lemmas.Bool.{cond-true, cond-false}
+use Rattle.std.proofs.lemmas.Bool.{cond-true, cond-false, cond_both}
 use Rattle.std.proofs.lemmas.List.{length-map}
-use Rattle.net_theory.specs.Document.{Name, latch_output}
+use Rattle.net_theory.specs.Document.{Name, is_same, latch_output}
 use Rattle.net_theory.specs.Document as documents
+use Rattle.net_theory.specs.NameLaws.{same_name}
 use Rattle.net_theory.specs.Circuit.{Circuit, sources_of}
 use Rattle.aiger_text.specs.declared.file.PortKind.{PortKind}
 use Rattle.aiger_text.specs.declared.file.PortKind.TheVariants.{Input, Latch, Output}
 use Rattle.aiger_text.specs.declared.file.Symbol.{Symbol}
 use Rattle.aiger_text.specs.Naming.{numbered_from, gate_name, gate_names_from, is_kind, with_symbols, with_names, literal_of, name_at}
-use Rattle.aiger_core.specs.Written.{even_from, mapped, latches_from, symbols_from}
+use Rattle.aiger_text.specs.Spelling.{kind_byte}
+use Rattle.aiger_core.specs.Written.{even_from, mapped, latches_from, default_name, symbol_of, symbols_from}
 
 -- ---- lists
 
@@ -65,20 +67,43 @@ kind_itself Input = refl
 kind_itself Latch = refl
 kind_itself Output = refl
 
--- the symbols of a kind, one for each position, set all names
-pub symbols_set : (kind : PortKind) (before olds ns : List Name) (more : List Symbol) (k : ℕ) → length before ≡ k → length olds ≡ length ns →
-    with_symbols kind (before ++ olds) (symbols_from kind k ns ++ more) ≡ with_symbols kind (before ++ ns) more
-unfolding with_symbols symbols_from
-symbols_set kind before [] [] more k e f = refl
-symbols_set kind before (o ∷ olds) [] more k e f = absurd (omega (arith, f))
-symbols_set kind before [] (n ∷ ns) more k e f = absurd (omega (arith, f))
-symbols_set kind before (o ∷ olds) (n ∷ ns) more k e f =
-    ap (λ (names : List Name). with_symbols kind names (symbols_from kind (k + 1) ns ++ more))
-    (cond-true (is_kind kind kind) (slice_set (before ++ o ∷ olds) k n) (before ++ o ∷ olds) (kind_itself kind)
-    ∙ set_middle before o olds k n e
-    ∙ sym (append_assoc before (n ∷ []) olds))
-    ∙ symbols_set kind (before ++ n ∷ []) olds ns more (k + 1) (length-append before (n ∷ []) ∙ ap (λ (p : ℕ). p + 1) e) (omega (arith, f))
+abbrev symbol_at : PortKind → ℕ → Name → Symbol
+symbol_at kind k n = record { kind = kind; position = k; name = n }
+
+-- a name that has no symbol is the one that was there
+symbol_set : (kind : PortKind) (before : List Name) (n : Name) (rest : List Name) (more : List Symbol) (k : ℕ) → length before ≡ k →
+    with_symbols kind (before ++ default_name kind k ∷ rest) (symbol_of kind k n ++ more) ≡ with_symbols kind (before ++ n ∷ rest) more
+unfolding with_symbols symbol_of
+symbol_set kind before n rest more k e =
+    let d = default_name kind k in
+    cond_both (is_same n d) [] (symbol_at kind k n ∷ [])
+    (λ (ss : List Symbol). with_symbols kind (before ++ d ∷ rest) (ss ++ more) ≡ with_symbols kind (before ++ n ∷ rest) more)
+    (λ same. ap (λ (m : Name). with_symbols kind (before ++ m ∷ rest) more) (sym (same_name n d same)))
+    (λ other. ap (λ (names : List Name). with_symbols kind names more)
+    (cond-true (is_kind kind kind) (slice_set (before ++ d ∷ rest) k n) (before ++ d ∷ rest) (kind_itself kind) ∙ set_middle before d rest k n e))
+
+-- the symbols of a kind set all names
+pub symbols_set : (kind : PortKind) (before ns : List Name) (more : List Symbol) (k : ℕ) → length before ≡ k →
+    with_symbols kind (before ++ numbered_from (kind_byte kind ∷ []) k (length ns)) (symbols_from kind k ns ++ more) ≡ with_symbols kind (before ++ ns) more
+unfolding with_symbols symbols_from numbered_from
+symbols_set kind before [] more k e = refl
+symbols_set kind before (n ∷ ns) more k e =
+    let olds = numbered_from (kind_byte kind ∷ []) (k + 1) (length ns) in
+    let later = symbols_from kind (k + 1) ns in
+    ap (with_symbols kind (before ++ default_name kind k ∷ olds)) (append_assoc (symbol_of kind k n) later more)
+    ∙ symbol_set kind before n olds (later ++ more) k e
+    ∙ ap (λ (names : List Name). with_symbols kind names (later ++ more)) (sym (append_assoc before (n ∷ []) olds))
+    ∙ symbols_set kind (before ++ n ∷ []) ns more (k + 1) (length-append before (n ∷ []) ∙ ap (λ (p : ℕ). p + 1) e)
     ∙ ap (λ (names : List Name). with_symbols kind names more) (append_assoc before (n ∷ []) ns)
+
+symbol_other : (kind other : PortKind) (names : List Name) (n : Name) (more : List Symbol) (k : ℕ) → is_kind kind other ≡ false →
+    with_symbols kind names (symbol_of other k n ++ more) ≡ with_symbols kind names more
+unfolding with_symbols symbol_of
+symbol_other kind other names n more k e =
+    cond_both (is_same n (default_name other k)) [] (symbol_at other k n ∷ [])
+    (λ (ss : List Symbol). with_symbols kind names (ss ++ more) ≡ with_symbols kind names more)
+    (λ same. refl)
+    (λ differs. ap (λ (xs : List Name). with_symbols kind xs more) (cond-false (is_kind kind other) (slice_set names k n) names e))
 
 -- the symbols of another kind set none
 pub symbols_other : (kind other : PortKind) (names ns : List Name) (more : List Symbol) (k : ℕ) → is_kind kind other ≡ false →
@@ -86,7 +111,8 @@ pub symbols_other : (kind other : PortKind) (names ns : List Name) (more : List 
 unfolding with_symbols symbols_from
 symbols_other kind other names [] more k e = refl
 symbols_other kind other names (n ∷ ns) more k e =
-    ap (λ (xs : List Name). with_symbols kind xs (symbols_from other (k + 1) ns ++ more)) (cond-false (is_kind kind other) (slice_set names k n) names e)
+    ap (with_symbols kind names) (append_assoc (symbol_of other k n) (symbols_from other (k + 1) ns) more)
+    ∙ symbol_other kind other names n (symbols_from other (k + 1) ns ++ more) k e
     ∙ symbols_other kind other names ns more (k + 1) e
 
 pub numbered_length : (prefix : List ℕ) (from n : ℕ) → length (numbered_from prefix from n) ≡ n
@@ -120,9 +146,9 @@ unfolding with_symbols
 input_names_are c n e =
     let lines = symbols_from Latch 0 (map latch_output c.latches) in
     let outs = symbols_from Output 0 c.outputs in
-    let olds = numbered_from (codes "i") 0 n in
-    ap (with_symbols Input olds) (append_assoc (symbols_from Input 0 c.inputs) lines outs)
-    ∙ symbols_set Input [] olds c.inputs (lines ++ outs) 0 refl (numbered_length (codes "i") 0 n ∙ sym e)
+    ap (λ (m : ℕ). with_symbols Input (numbered_from (codes "i") 0 m) (circuit_symbols c)) (sym e)
+    ∙ ap (with_symbols Input (numbered_from (codes "i") 0 (length c.inputs))) (append_assoc (symbols_from Input 0 c.inputs) lines outs)
+    ∙ symbols_set Input [] c.inputs (lines ++ outs) 0 refl
     ∙ symbols_other Input Latch c.inputs (map latch_output c.latches) outs 0 refl
     ∙ ap (with_symbols Input c.inputs) (sym (append-nil outs))
     ∙ symbols_other Input Output c.inputs c.outputs [] 0 refl
@@ -136,7 +162,8 @@ latch_names_are c n e =
     let olds = numbered_from (codes "l") 0 n in
     ap (with_symbols Latch olds) (append_assoc ins lines outs)
     ∙ symbols_other Latch Input olds c.inputs (lines ++ outs) 0 refl
-    ∙ symbols_set Latch [] olds (map latch_output c.latches) outs 0 refl (numbered_length (codes "l") 0 n ∙ sym e ∙ sym (length-map c.latches latch_output))
+    ∙ ap (λ (m : ℕ). with_symbols Latch (numbered_from (codes "l") 0 m) (lines ++ outs)) (sym e ∙ sym (length-map c.latches latch_output))
+    ∙ symbols_set Latch [] (map latch_output c.latches) outs 0 refl
     ∙ ap (with_symbols Latch (map latch_output c.latches)) (sym (append-nil outs))
     ∙ symbols_other Latch Output (map latch_output c.latches) c.outputs [] 0 refl
 
@@ -151,7 +178,8 @@ output_names_are c n e =
     ∙ symbols_other Output Input olds c.inputs (lines ++ outs) 0 refl
     ∙ symbols_other Output Latch olds (map latch_output c.latches) outs 0 refl
     ∙ ap (with_symbols Output olds) (sym (append-nil outs))
-    ∙ symbols_set Output [] olds c.outputs [] 0 refl (numbered_length (codes "o") 0 n ∙ sym e)
+    ∙ ap (λ (m : ℕ). with_symbols Output (numbered_from (codes "o") 0 m) (outs ++ [])) (sym e)
+    ∙ symbols_set Output [] c.outputs [] 0 refl
 
 latch_literals : (node : ℕ) (ls : List documents.Latch) (nexts : List ℕ) → length ls ≡ length nexts → map literal_of (latches_from node ls nexts) ≡ even_from node (length ls)
 unfolding latches_from even_from

@@ -1,5 +1,5 @@
-//! Tests of the AIGER crates: faults with their lines, texts that are cut off, in either form, and the names and tables
-//! of documents.
+//! Tests of the AIGER crates: faults with their lines, texts that are cut off, in either form, the names and tables of
+//! documents, and the symbols that are written.
 #![tactic(auto)]
 
 #[cfg(test)]
@@ -8,3 +8,5 @@ mod binaries;
 mod faults;
 #[cfg(test)]
 mod listings;
+#[cfg(test)]
+mod written;

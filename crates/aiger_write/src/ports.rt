@@ -1,13 +1,15 @@
 //! The latches and symbols of a written file.
 
 ghost use Rattle.std.specs.Prelude.{◌≡◌, ◌+◌, ◌<◌, ◌^◌, ◌++◌, length, map, OnOk, IfOk};
-ghost use Rattle.net_theory.specs.Document.{latch_output};
+ghost use Rattle.net_theory.specs.Document.{is_same, latch_output};
 ghost use Rattle.aiger_text.specs.declared.file.PortKind.TheVariants as kinds;
+ghost use Rattle.aiger_text.specs.Spelling.{kind_byte as byte_of};
 ghost use Rattle.aiger_core.specs.Written as spec;
 
 use aiger_text::{AigLatch, PortKind, Reset, Symbol};
 use net_core::{Latch, Name};
 use std::alloc::{AllocError, Global};
+use text_core::push_number;
 
 /// The reset value of an initial value; one that isn't given, don't-care or unknown is undefined.
 fn reset_of(init: Option<u8>) -> Reset
@@ -58,6 +60,56 @@ pub fn latches_from(
     Ok(lines)
 }
 
+/// The first byte of a symbol.
+fn kind_byte(kind: PortKind) -> u8
+    ensures { result ≡ byte_of kind }
+{
+    match kind {
+        PortKind::Input => b'i',
+        PortKind::Latch => b'l',
+        PortKind::Output => b'o',
+    }
+}
+
+/// The name that the reader gives an input, a latch or an output without a symbol.
+fn default_name(alloc: Global, kind: PortKind, at: u32) -> Result<Name, AllocError>
+    ensures { IfOk result (λ n. n ≡ spec.default_name kind at) }
+{
+    let mut bytes = Vec::new(alloc);
+    bytes.push(kind_byte(kind))?;
+    push_number(&mut bytes, at)?;
+    Ok(Name::new(bytes))
+}
+
+/// `first == second`, as a separate function; for the prover.
+fn is_name(first: &Name, second: &Name) -> bool
+    ensures { result ≡ is_same first.now second.now }
+{
+    first == second
+}
+
+/// Adds the symbol of a name at a position, unless the reader gives that name without one.
+#[tactic(auto, unfolding(aiger_core::specs::Written::symbol_of))]
+fn push_symbol(
+    symbols: &mut Vec<Symbol>,
+    kind: PortKind,
+    position: u32,
+    name: &Name,
+) -> Result<(), AllocError>
+    ensures { OnOk result (symbols.new.items ≡ symbols.old.items ++ spec.symbol_of kind position name.now) }
+{
+    let default = default_name(*symbols.allocator(), kind, position)?;
+    if is_name(name, &default) {
+        return Ok(());
+    }
+    symbols.push(Symbol {
+        kind,
+        position,
+        name: name.copied()?,
+    })?;
+    Ok(())
+}
+
 /// Adds the symbols of names, by their positions from 0 on.
 #[tactic(auto, unfolding(aiger_core::specs::Written::symbols_from))]
 pub fn push_symbols(
@@ -71,11 +123,7 @@ pub fn push_symbols(
     let mut at = 0;
     let mut left = names;
     while let Some((name, rest)) = left.split_first() {
-        symbols.push(Symbol {
-            kind,
-            position: at,
-            name: name.copied()?,
-        })?;
+        push_symbol(symbols, kind, at, name)?;
         at += 1;
         left = rest;
     }
@@ -92,11 +140,7 @@ pub fn push_latch_symbols(symbols: &mut Vec<Symbol>, latches: &[Latch]) -> Resul
     let mut at = 0;
     let mut left = latches;
     while let Some((latch, rest)) = left.split_first() {
-        symbols.push(Symbol {
-            kind: PortKind::Latch,
-            position: at,
-            name: latch.output.copied()?,
-        })?;
+        push_symbol(symbols, PortKind::Latch, at, &latch.output)?;
         at += 1;
         left = rest;
     }

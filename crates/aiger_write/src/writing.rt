@@ -48,7 +48,8 @@ fn circuit_latches(
 }
 
 /// The AIGER file of a circuit that AIGER can express: the inputs are the first variables, then come the latches and
-/// the AND gates, in the order of the net's nodes, and each input, latch and output has a symbol.
+/// the AND gates, in the order of the net's nodes. An input, a latch or an output has a symbol, unless the reader gives
+/// its name without one.
 #[tactic(auto, using(crate::proofs::Files::files))]
 pub fn aiger_file(alloc: Global, circuit: &Circuit) -> Result<AigFile, AllocError>
     requires { CanWriteAiger circuit.now }

@@ -22,7 +22,7 @@ use Rattle.improve_theory.specs.Changes.{HasChangedTimes}
 use Rattle.improve_theory.specs.ChangesLaws.{times_from}
 use Rattle.improve_theory.specs.Improvement.{IsResynthesisOf, IsImprovementBy}
 
-cleanup_within : (basis : Basis) (n : Net) → IsNet n → HasOperatorsWithin basis n (cleanup n)
+pub cleanup_within : (basis : Basis) (n : Net) → IsNet n → HasOperatorsWithin basis n (cleanup n)
 cleanup_within basis n net = record { each = λ i g at. inr (cleanup_operators n g.op net (record { index = i; gate = g; at = at; same = refl })) }
 
 none_listed : (s : ImproveSettings) (m : Net) (named : List Undecided) → s.cap ≡ 0 → IsSettled s m (candidates named)
@@ -48,7 +48,7 @@ idle s n named net cap none =
 pub leaves_idle : (s : ImproveSettings) (n m : Net) (named : List Undecided) → IsNet n → s.cap ≡ 0 → m ≡ cleanup n → named ≡ [] → IsImprovementBy s n m true named
 leaves_idle s n m named net cap same none = subst (λ (x : Net). IsImprovementBy s n x true named) (sym same) (idle s n named net cap none)
 
-within_on : (basis : Basis) (n m : Net) → IsNet n → HasOperatorsWithin basis (cleanup n) m → HasOperatorsWithin basis n m
+pub within_on : (basis : Basis) (n m : Net) → IsNet n → HasOperatorsWithin basis (cleanup n) m → HasOperatorsWithin basis n m
 within_on basis n m net within = record {
   each = λ i g at. ⊎_elim
       (λ on. inl on)

@@ -14,9 +14,9 @@ use std::alloc::{AllocError, Global};
 
 /// The document that BLIF writes for a circuit, and its cost.
 #[derive(Drop)]
-pub(crate) struct CostedDocument {
-    pub(crate) document: Document,
-    pub(crate) cost: u32,
+pub struct CostedDocument {
+    pub document: Document,
+    pub cost: u32,
 }
 
 /// The cost of a document.
@@ -31,7 +31,7 @@ fn document_cost(alloc: Global, document: &Document) -> Result<u32, AllocError>
 
 /// The document that BLIF writes for a circuit, and its cost.
 #[tactic(auto, using(crate::specs::CostLaws::costing))]
-pub(crate) fn costed(alloc: Global, circuit: &Circuit) -> Result<CostedDocument, AllocError>
+pub fn costed(alloc: Global, circuit: &Circuit) -> Result<CostedDocument, AllocError>
     requires { IsProper circuit.now }
     ensures document { IfOk result (λ w. w.document ≡ written_of circuit.now) }
     ensures cost { IfOk result (λ w. w.cost ≡ cost (written_of circuit.now)) }

@@ -29,7 +29,9 @@ mod texts;
 
 pub use blif_core::{Circuit, NetError};
 pub use circuits::{Improved, Written, improve_written};
+pub use costing::{CostedDocument, costed};
 pub use improve_theory::{Undecided, WindowCandidate};
 pub use passes::{ImprovedNet, improve_net};
 pub use settings::ImproveSettings;
+pub use stages::{first_patience, first_work, stage_work};
 pub use texts::{ImprovedText, all_reported, improve_bench, improve_blif};

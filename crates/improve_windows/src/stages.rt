@@ -14,7 +14,7 @@ const EFFORT_WORK: u64 = 50_000;
 const LEAST_GATES: u64 = 8;
 
 /// The work of the first stage for each gate, in a net of so many.
-pub(crate) fn first_work(gates: usize) -> u64 {
+pub fn first_work(gates: usize) -> u64 {
     let gates = (gates as u64).max(LEAST_GATES);
     let mut work = 0u64;
     let mut begin = 0u64;
@@ -27,7 +27,7 @@ pub(crate) fn first_work(gates: usize) -> u64 {
 }
 
 /// How much of that work may be without a gain.
-pub(crate) fn first_patience(gates: usize) -> u64 {
+pub fn first_patience(gates: usize) -> u64 {
     first_work(gates) / PATIENCE_PART
 }
 
@@ -42,7 +42,7 @@ fn length_at(effort: u32) -> u32 {
 }
 
 /// The work of the stage that ends at an effort, for a net of so many gates; 0 where none ends.
-pub(crate) fn stage_work(effort: u32, gates: usize) -> u64 {
+pub fn stage_work(effort: u32, gates: usize) -> u64 {
     let length = length_at(effort);
     if length == 0 {
         return 0;

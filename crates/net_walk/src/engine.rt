@@ -4,12 +4,14 @@
 
 use crate::comparing::Comparison;
 use crate::convex::Closure;
+use crate::fanouts::NONE;
 use crate::graph::Graph;
 use crate::growing::Window;
-use crate::loading::{load, store};
+use crate::loading::store;
 use crate::marks::Marks;
-use crate::muxes::decode_muxes;
 use crate::reachable::Reachable;
+use crate::starting::{begun, load_limited};
+use crate::timing::Timing;
 use crate::windows::{Translation, care_of};
 use chain_walk::{Choices, Limits, OutputComplements, SmallNet, Walk};
 use rows::Random;
@@ -48,6 +50,12 @@ const LEAST_GATES: u32 = 8;
 /// What a window costs beside its walk.
 const WINDOW_WORK: u64 = 20_000;
 
+/// Under a limit of levels a walk is looked at after so many moves: it goes back where a path is too long.
+const LIMITED_MOVES: u32 = 20;
+
+/// Levels and required times are made exact after so much work for each gate.
+const TIMING_INTERVAL: u64 = 500;
+
 /// The operators with one 1 or one 0: AND of operands that may be complemented, and its complement.
 const ANDS: u16 = 0x6996;
 
@@ -66,6 +74,8 @@ pub struct NetWalk {
     closure: Closure,
     reachable: Reachable,
     translation: Translation,
+    timing: Timing,
+    timed: u64,
     comparison: Comparison,
     rows: Vec<u32>,
     failing: Vec<u32>,
@@ -84,13 +94,34 @@ fn with_complements(basis: u16) -> u16 {
     ands | parities
 }
 
+/// A run of so many moves.
+fn limits(moves: u32) -> Limits {
+    Limits {
+        moves,
+        patience: moves,
+        enough: 0,
+        work: u64::MAX,
+    }
+}
+
 impl NetWalk {
     /// A search from a graph, for gates of the basis (operator k is a member where bit k is 1); complements cost
     /// nothing. The seed decides all that is random.
     pub fn new(alloc: Global, xag: &Xag, basis: u16, seed: u64) -> Result<NetWalk, AllocError> {
+        NetWalk::within(alloc, xag, basis, seed, NONE)
+    }
+
+    /// A search as `new`'s that makes no path to a sink longer than `most` gates, where none is so at the start; no
+    /// path is limited where `most` is the largest number.
+    pub fn within(
+        alloc: Global,
+        xag: &Xag,
+        basis: u16,
+        seed: u64,
+        most: u32,
+    ) -> Result<NetWalk, AllocError> {
         let basis = with_complements(basis);
-        let mut graph = load(alloc, xag)?;
-        decode_muxes(alloc, &mut graph)?;
+        let graph = begun(alloc, xag, most)?;
         Ok(NetWalk {
             alloc,
             basis,
@@ -101,6 +132,8 @@ impl NetWalk {
             closure: Closure::new(alloc),
             reachable: Reachable::new(alloc),
             translation: Translation::new(alloc),
+            timing: Timing::new(alloc),
+            timed: 0,
             comparison: Comparison::new(alloc),
             rows: Vec::new(alloc),
             failing: Vec::new(alloc),
@@ -164,13 +197,39 @@ impl NetWalk {
         Ok(cost)
     }
 
+    /// Whether no path is too long. If one is, the search goes back to the cheapest graph so far.
+    fn is_within_limit(&mut self) -> Result<bool, AllocError> {
+        if !self.graph.is_limited() || self.graph.size() > MOST_KEPT_GATES {
+            return Ok(true);
+        }
+        self.graph.time()?;
+        if self.graph.is_within_limit() {
+            return Ok(true);
+        }
+        if let Some(best) = &self.best {
+            self.graph = load_limited(self.alloc, best, self.graph.most_levels)?;
+        }
+        Ok(false)
+    }
+
+    /// Makes levels and required times exact, where there is a limit and enough was done since the last time.
+    fn time(&mut self) -> Result<(), AllocError> {
+        let since = self.work().saturating_sub(self.timed);
+        let interval = TIMING_INTERVAL.saturating_mul(u64::from(self.graph.size()));
+        if self.graph.is_limited() && since >= interval {
+            self.timed = self.work();
+            self.graph.time()?;
+        }
+        Ok(())
+    }
+
     /// Keeps the graph, if it is the cheapest so far.
     fn keep_best(&mut self) -> Result<(), AllocError> {
         if self.graph.size() >= self.least {
             return Ok(());
         }
         let cost = self.cost()?;
-        if cost < self.least {
+        if cost < self.least && self.is_within_limit()? {
             self.least = cost;
             if self.graph.size() <= MOST_KEPT_GATES {
                 self.best = Some(store(self.alloc, &self.graph)?);
@@ -185,13 +244,33 @@ impl NetWalk {
         let seed = self.random.word();
         let mut walk = Walk::new(self.alloc, self.basis, OutputComplements::Free, care, seed)?;
         walk.start(net)?;
-        walk.run(Limits {
-            moves,
-            patience: moves,
-            enough: 0,
-            work: u64::MAX,
-        })?;
+        if self.graph.is_limited() {
+            self.run_limited(&mut walk, net, moves)?;
+        } else {
+            walk.run(limits(moves))?;
+        }
         Ok(walk)
+    }
+
+    /// Walks from a small net to one that has no more gates and makes no path too long, or stays there.
+    fn run_limited(
+        &mut self,
+        walk: &mut Walk,
+        net: &SmallNet,
+        moves: u32,
+    ) -> Result<(), AllocError> {
+        self.timing.begin(&self.graph, &self.window)?;
+        let mut kept = SmallNet::new(self.alloc, 0, 1)?;
+        kept.copy_from(net)?;
+        for _part in 0..moves / LIMITED_MOVES {
+            walk.run(limits(LIMITED_MOVES))?;
+            if walk.net().size() <= kept.size() && self.timing.fits(walk.net())? {
+                kept.copy_from(walk.net())?;
+            } else {
+                walk.start(&kept)?;
+            }
+        }
+        Ok(())
     }
 
     /// The window over the rows as a small net; None where the basis can't make it.
@@ -316,6 +395,7 @@ impl NetWalk {
 
     /// One walk: over the whole net where its turn has come, else over a random window.
     fn walk_once(&mut self) -> Result<(), AllocError> {
+        self.time()?;
         if self.is_turn_of_whole() {
             self.walk_whole()
         } else {

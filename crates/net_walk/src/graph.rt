@@ -21,21 +21,23 @@ const NO_GATE: XagGate = XagGate {
 };
 
 /// The graph. `live` has the gates in any order, and `places` their places there; `free` has the nodes of removed
-/// gates.
+/// gates. `most_levels` is a limit of levels, NONE for none, and `required` has the required times under it.
 #[derive(Drop)]
 pub struct Graph {
     pub(crate) alloc: Global,
     sources: u32,
     sinks: u32,
     gates: Vec<XagGate>,
-    levels: Vec<u32>,
+    pub(crate) levels: Vec<u32>,
     places: Vec<u32>,
     live: Vec<u32>,
     free: Vec<u32>,
     pub(crate) fanouts: Fanouts,
     pub(crate) waiting: Vec<u32>,
     pub(crate) readers: Vec<u32>,
-    rising: Vec<u32>,
+    pub(crate) rising: Vec<u32>,
+    pub(crate) most_levels: u32,
+    pub(crate) required: Vec<u32>,
 }
 
 /// A gate without complements that can be moved, its operands in order.
@@ -81,6 +83,8 @@ impl Graph {
             waiting: Vec::new(alloc),
             readers: Vec::new(alloc),
             rising: Vec::new(alloc),
+            most_levels: NONE,
+            required: Vec::new(alloc),
         };
         for _node in 0..sources.saturating_add(sinks).saturating_add(1) {
             graph.push_node()?;
@@ -100,6 +104,7 @@ impl Graph {
         self.gates.push(NO_GATE)?;
         self.levels.push(0)?;
         self.places.push(NONE)?;
+        self.required.push(NONE)?;
         self.fanouts.push()
     }
 
@@ -232,12 +237,13 @@ impl Graph {
         self.live.push(node)?;
         let level = self.level_over(gate);
         put(&mut self.levels, node, level);
+        put(&mut self.required, node, NONE);
         self.link(node, gate);
         Ok(node)
     }
 
     /// The level that a gate needs.
-    fn level_over(&self, gate: XagGate) -> u32 {
+    pub(crate) fn level_over(&self, gate: XagGate) -> u32 {
         self.level(gate.first >> 1)
             .max(self.level(gate.second >> 1))
             .saturating_add(1)
@@ -273,13 +279,14 @@ impl Graph {
         self.fanouts.link(literal >> 1, link);
     }
 
-    /// Lets a gate be another one, in order, and raises the levels above it.
+    /// Lets a gate be another one, in order, raises the levels above it, and lowers the required times below it.
     pub(crate) fn set_gate(&mut self, node: u32, gate: XagGate) -> Result<(), AllocError> {
         let old = self.gate(node);
         self.unlink(node, old);
         put(&mut self.gates, node, gate);
         self.link(node, gate);
-        self.raise_levels(node)
+        self.raise_levels(node)?;
+        self.lower_required(node)
     }
 
     /// Raises the levels of a gate and of those that depend on it, as far as they need it.

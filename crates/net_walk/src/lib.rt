@@ -5,6 +5,8 @@
 //! after the walk takes the window's place if it has no more gates. A graph of few sources is also walked as one
 //! window, in some rows, and then compared in all.
 //!
+//! Where the levels are limited, a window's net is put back only if no path gets longer than the limit (`timing`).
+//!
 //! This is a search, and nothing is promised of what it finds but that it ends: `move_check` judges the net. The work
 //! is counted, so that a run is the same on each machine, and a longer run is a shorter one that goes on.
 //!
@@ -27,6 +29,8 @@ mod merging;
 mod muxes;
 mod patterns;
 mod reachable;
+mod starting;
+mod timing;
 mod windows;
 
 pub use engine::NetWalk;

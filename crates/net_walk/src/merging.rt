@@ -45,7 +45,7 @@ impl Graph {
         let gate = self.gate(reader);
         if self.is_sink(reader) {
             self.set_sink(reader, rerouted(gate.first, old, literal));
-            return Ok(());
+            return self.lower_required(reader);
         }
         let next = ordered(
             rerouted(gate.first, old, literal),

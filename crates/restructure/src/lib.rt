@@ -5,6 +5,8 @@
 //! asked. Its graph becomes a net again, with operators of the basis where polarities and NOT gates allow that. An
 //! equivalence check compares this net with the given one (`move_check`), so no move needs a proof.
 //!
+//! With a limit of levels no path gets longer than it, and a net with more levels isn't answered (`smaller_within`).
+//!
 //! The walk can go on after each such comparison, with the same random numbers whatever follows: a longer search is a
 //! shorter one that goes on.
 //!
