@@ -57,15 +57,17 @@ tidy_within s most n m net same = subst (IsWithin s most n) (sym same) (record {
   cleaned_up = cleanup_is n net;
   operators = cleanup_within (members s.basis) n net;
   levels = omega (arith, cleanup_levels n net);
+  untouched = λ none. refl;
 })
 
 -- and one that may replace it
 pub flat_within : (s : ImproveSettings) (most limit : ℕ) (n d m : Net) → IsNet n → d ≡ cleanup n →
-    limit ≡ max most (levels_of n) → IsFlat (members s.basis) limit d m → IsWithin s most n m
-flat_within s most limit n d m net same is flat = record {
+    limit ≡ max most (levels_of n) → (s.cap ≡ 0 → ⊥) → IsFlat (members s.basis) limit d m → IsWithin s most n m
+flat_within s most limit n d m net same is some flat = record {
   cleaned_up = flat.replaces.cleaned_up n (subst (IsCleanedUp n) (sym same) (cleanup_is n net));
   operators = within_on (members s.basis) n m net (subst (λ (x : Net). HasOperatorsWithin (members s.basis) x m) same flat.replaces.operators);
   levels = subst (λ (l : ℕ). levels_of m ≤ l) is flat.levels;
+  untouched = λ none. absurd (some none);
 }
 
 pub tidy_flat : (most limit : ℕ) (n d : Net) → IsNet n → d ≡ cleanup n → limit ≡ max most (levels_of n) → levels_of d ≤ limit
