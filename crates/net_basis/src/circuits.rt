@@ -4,7 +4,7 @@ ghost use Rattle.op_basis.specs.Basis.{members};
 ghost use Rattle.net_theory.specs.Circuit.{IsProper};
 ghost use Rattle.net_theory.specs.ExchangeLaws.{with_net as with_net_of};
 ghost use Rattle.net_basis.specs.OverBasis.{IsCircuitOver, IsInexpressibleAt, MayHaveTooMany, IfOver, IfCannot};
-ghost use Rattle.net_basis.specs.OverBasis.{IfTooMany};
+ghost use Rattle.net_basis.specs.OverBasis.{IfTooMany, IsNetAnswer};
 
 use crate::answer::{Converted, NetOver};
 use crate::converting::net_over;
@@ -34,6 +34,13 @@ fn with_net(circuit: Circuit, new: Net) -> Circuit
     }
 }
 
+/// The net of a circuit over a basis.
+fn net_of_circuit(alloc: Global, circuit: &Circuit, basis: Basis) -> Result<NetOver, AllocError>
+    ensures { IfOk result (IsNetAnswer (members basis) circuit.now.net) }
+{
+    net_over(alloc, &circuit.net, basis)
+}
+
 /// The circuit over a basis: each gate of another operator is replaced by a least chain of gates over the basis, and a
 /// constant or a copy by its signal. An error means that memory ran out.
 pub fn over_basis(alloc: Global, circuit: Circuit, basis: Basis) -> Result<Converted, AllocError>
@@ -45,7 +52,7 @@ pub fn over_basis(alloc: Global, circuit: Circuit, basis: Basis) -> Result<Conve
     ensures too_many { IfOk result (λ all. IfTooMany all (λ left. MayHaveTooMany circuit.net)) }
     ensures left { IfOk result (λ all. IfTooMany all (λ left. left ≡ circuit)) }
 {
-    match net_over(alloc, &circuit.net, basis)? {
+    match net_of_circuit(alloc, &circuit, basis)? {
         NetOver::Over(net) => Ok(Converted::Over(with_net(circuit, net))),
         NetOver::Cannot(node) => Ok(Converted::Cannot(circuit, node)),
         NetOver::TooMany => Ok(Converted::TooMany(circuit)),

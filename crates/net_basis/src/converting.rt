@@ -85,7 +85,27 @@ fn net_of_gates(
     Ok(NetOver::Over(Net::new(net.sources(), gates, sinks)))
 }
 
-/// A net over a basis: each gate of another operator is a least chain of gates over the basis, for its operands.
+/// The net over the basis, by the recipes.
+fn net_in(
+    alloc: Global,
+    net: &Net,
+    basis: Basis,
+    recipes: &[Recipe],
+    nodes: &mut [Sig],
+) -> Result<NetOver, AllocError>
+    requires recipes { AreRecipes (members basis) recipes.now }
+    requires start { nodes_of nodes.old ≡ sources_stay net.now.sources }
+    requires count { length nodes.old ≡ end_of net.now }
+    ensures { IfOk result (IsNetAnswer (members basis) net.now) }
+{
+    match pass(alloc, net, basis, recipes, nodes)? {
+        Passed::All(gates) => net_of_gates(alloc, net, basis, nodes, gates),
+        Passed::Cannot(node) => Ok(NetOver::Cannot(node)),
+        Passed::TooMany => Ok(NetOver::TooMany),
+    }
+}
+
+/// A net over a basis: each gate of another operator is a chain of gates over the basis, for its operands.
 pub fn net_over(alloc: Global, net: &Net, basis: Basis) -> Result<NetOver, AllocError>
     ensures { IfOk result (IsNetAnswer (members basis) net.now) }
 {
@@ -93,9 +113,5 @@ pub fn net_over(alloc: Global, net: &Net, basis: Basis) -> Result<NetOver, Alloc
     let sources = net.sources();
     let count = sources + 1 + net.gates().len() as u32;
     let mut nodes = start_nodes(alloc, sources, count)?;
-    match pass(alloc, net, basis, &all, &mut nodes)? {
-        Passed::All(gates) => net_of_gates(alloc, net, basis, &nodes, gates),
-        Passed::Cannot(node) => Ok(NetOver::Cannot(node)),
-        Passed::TooMany => Ok(NetOver::TooMany),
-    }
+    net_in(alloc, net, basis, &all, &mut nodes)
 }

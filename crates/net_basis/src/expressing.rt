@@ -153,12 +153,14 @@ pub fn express(
         return keep(basis, sources, gates, gate);
     }
     let op = chosen(recipes, gate);
-    match op.get() {
-        0 => return Ok(Expressed::By(Sig::Zero)),
-        15 => return Ok(Expressed::By(Sig::One)),
-        _ => {}
+    let word = op.get();
+    if word == 0 {
+        return Ok(Expressed::By(Sig::Zero));
     }
-    let recipe = &recipes[usize::from(op.get())];
+    if word == 15 {
+        return Ok(Expressed::By(Sig::One));
+    }
+    let recipe = &recipes[usize::from(word)];
     if !recipe.is_made {
         return Ok(Expressed::Cannot);
     }

@@ -1,6 +1,7 @@
-//! A least chain for an operator. The sets of functions that some steps make are listed in the order of their numbers of
-//! steps, each set once, so that the first one with the operator has a least chain: of all bases, none reaches more
-//! than 425 sets before. That the chain is least isn't proved; whether it is a chain for the operator, the caller tests.
+//! A least chain for an operator. The sets of functions that some steps make are listed in the order of their numbers
+//! of steps, each set once, so that the first one with the operator has a least chain. That the chain is least isn't
+//! proved; whether it is a chain for the operator, the caller tests. Least chains for operators have at most seven
+//! steps over any basis, and a few hundred sets come before.
 ghost use Rattle.std.specs.Prelude.{◌≤◌, IfOk, vec_len};
 
 use crate::join::{Join, function_of, operands, with_function};
