@@ -1,12 +1,10 @@
 -- The gates of steps have the values of the functions that the steps make.
 use Rattle.std.proofs.Common.{◌≡◌, ◌≢◌, ℕ, ◌+◌, ◌<◌, ◌==◌, ◌||◌, Bool, true, false, ◌&&◌, List, [], ◌∷◌, ◌++◌, length, set, get_or, ◌⊎◌, refl, sym, ap, ◌∙◌, subst, arith, ⊎_elim, inl, inr, eqb-true, length-append}
-use Rattle.std.specs.List.{slice_get}
-use Rattle.std.specs.Prelude.{Some}
-use Rattle.std.proofs.lemmas.Bool.{cases_eq, cond-true, cond-false, eq-eqb, ne_eqb, cases_Bool}
+use Rattle.std.proofs.lemmas.Bool.{cases_eq, cond-true, cond-false, eq-eqb, ne_eqb}
 use Rattle.std.proofs.lemmas.List.{get_or-set_same, get_or-set_other}
 use Rattle.chain_theory.specs.Operator.{apply, Basis}
 use Rattle.chain_theory.specs.Value.{extended}
-use Rattle.chain_theory.specs.ValueLaws.{extended-same, extended-other}
+use Rattle.chain_theory.specs.ValueLaws.{extended-other}
 use Rattle.op_basis.specs.Closed.{operator_of}
 use Rattle.op_basis.specs.Laws.{operator_values}
 use Rattle.net_theory.specs.declared.data.Sig.{Sig}
@@ -20,7 +18,7 @@ use Rattle.net_basis.specs.declared.join.Join.{Join}
 use Rattle.net_basis.specs.Joins.{joined, function_of, operands, may_join, makes}
 use Rattle.net_basis.specs.OverBasis.{HaveOperatorsIn}
 use Rattle.net_basis.specs.Placing.{joining_gate, with_join, placed, IsExpressed}
-use Rattle.net_basis.proofs.Closures.{and_split, known_cases}
+use Rattle.net_basis.proofs.Closures.{and_split}
 
 pub put_same : (nodes : ℕ → Sig) (node : ℕ) (s : Sig) (p : ℕ) → p ≡ node → put_sig nodes node s p ≡ s
 put_same nodes node s p own = cond-true (p == node) s (nodes p) (eq-eqb p node own)
@@ -183,14 +181,12 @@ placed_expresses basis sources a b k js w small are below_a below_b first second
     placing_all basis sources k.gates a b operands k js w small (placing_first basis sources a b k are below_a below_b first second) made
 
 -- the same for the tables and gates of the code
-pub chain_expresses : (basis : Basis) (sources : ℕ) (a b s : Sig) (base : ℕ → Sig) (table after : List Sig) (old new : List Gate)
+pub chain_expresses : (basis : Basis) (sources : ℕ) (a b s : Sig) (table after : List Sig) (old new : List Gate)
     (js : List Join) (w : ℕ) → ((p : ℕ) → basis p ≡ true → p < 16) → AreGates sources old →
-    IsSigBelow (sources + 1 + length old) a → IsSigBelow (sources + 1 + length old) b →
-    nodes_of table ≡ put_sig (put_sig base 3 a) 5 b → makes basis operands js w ≡ true →
-    kept after new ≡ placed sources (kept table old) js → s ≡ nodes_of after w → IsExpressed basis sources old new a b w s
-chain_expresses basis sources a b s base table after old new js w small are below_a below_b start made same is =
-    let first : nodes_of table 3 ≡ a = ap (λ (f : ℕ → Sig). f 3) start ∙ put_other (put_sig base 3 a) 5 b 3 (omega arith) ∙ put_same base 3 a 3 refl in
-    let second : nodes_of table 5 ≡ b = ap (λ (f : ℕ → Sig). f 5) start ∙ put_same (put_sig base 3 a) 5 b 5 refl in
+    IsSigBelow (sources + 1 + length old) a → IsSigBelow (sources + 1 + length old) b → nodes_of table 3 ≡ a →
+    nodes_of table 5 ≡ b → makes basis operands js w ≡ true → kept after new ≡ placed sources (kept table old) js →
+    s ≡ nodes_of after w → IsExpressed basis sources old new a b w s
+chain_expresses basis sources a b s table after old new js w small are below_a below_b first second made same is =
     subst (IsExpressed basis sources old new a b w) (sym is)
     (subst (λ (k : Kept). IsExpressed basis sources old k.gates a b w (k.nodes w)) (sym same)
     (placed_expresses basis sources a b (kept table old) js w small are below_a below_b first second made))

@@ -9,7 +9,7 @@ use Rattle.net_theory.specs.Circuit.{Circuit, IsProper}
 use Rattle.net_theory.specs.ExchangeLaws.{with_net}
 use Rattle.net_theory.specs.Limits.{most_gates}
 use Rattle.net_document.specs.Equivalence.{AreEquivalentCircuits}
-use Rattle.net_basis.specs.Joins.{joined, is_closed}
+use Rattle.net_basis.specs.Joins.{is_closed}
 use Rattle.net_basis.specs.declared.answer.NetOver.{NetOver}
 use Rattle.net_basis.specs.declared.answer.NetOver.TheVariants as nets
 use Rattle.net_basis.specs.declared.answer.Converted.{Converted}

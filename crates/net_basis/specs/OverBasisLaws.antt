@@ -1,16 +1,14 @@
 -- A circuit's net can be replaced by one that behaves as it does. What is over a basis stays so.
-use Rattle.std.specs.Prelude.{◌≡◌, ℕ, ◌+◌, ◌≤◌, ◌<◌, Bool, true, length, slice_get, slice_index_or, Some, refl}
+use Rattle.std.specs.Prelude.{◌≡◌, ℕ, ◌+◌, ◌≤◌, ◌<◌, length, slice_get, slice_index_or, Some, refl}
 use Rattle.std.proofs.Common.{arith, sym, ◌∙◌, ap, subst, ⊎_elim}
 use Rattle.std.proofs.lemmas.Option.{slice_get-get_or, get_or_from_slice_get}
 use Rattle.chain_theory.specs.Operator.{Basis}
 use Rattle.net_theory.specs.declared.data.Sig.TheVariants.{Zero, Node}
-use Rattle.net_theory.specs.declared.data.Gate.{Gate}
 use Rattle.net_theory.specs.Net.{Net}
 use Rattle.net_theory.specs.Circuit.{Circuit, sources_of, IsProper, by_node}
 use Rattle.net_theory.specs.ExchangeLaws.{with_net}
 use Rattle.net_theory.specs.Limits.{most_gates}
 use Rattle.net_theory.specs.Operators.{HasOperatorsWithin}
-use Rattle.net_document.specs.Equivalence.{AreEquivalentCircuits}
 use Rattle.net_basis.specs.OverBasis.{HaveOperatorsIn, BehavesAs, IsNetOver, IsCircuitOver}
 
 behaving_proper : (c : Circuit) (m : Net) → IsProper c → BehavesAs c.net m → length m.gates ≤ most_gates → IsProper (with_net c m)

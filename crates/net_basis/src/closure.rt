@@ -1,6 +1,6 @@
 //! All functions of two operands that the operators of a basis make, one step after the other: a step is added as long
 //! as one makes a function that isn't known.
-ghost use Rattle.std.specs.Prelude.{◌≡◌, true, false, IfOk, IfSome, IfNone};
+ghost use Rattle.std.specs.Prelude.{◌≡◌, true, IfOk, IfSome, IfNone};
 ghost use Rattle.op_basis.specs.Basis.{members};
 ghost use Rattle.op_basis.specs.Closed.{every};
 ghost use Rattle.net_basis.specs.Joins.{has_joined_on, has_all_joined, is_closed, is_new as is_new_of, IsNewJoin};

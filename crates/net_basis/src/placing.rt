@@ -8,7 +8,7 @@ ghost use Rattle.net_basis.specs.Joins.{operands, makes};
 ghost use Rattle.net_basis.specs.Placing.{with_join, placed, IsExpressed};
 
 use crate::join::{Join, function_of};
-use crate::table::{put, signal_of};
+use crate::table::{put, put_operands, signal_of};
 use net_core::{Gate, Sig};
 use op_basis::{Basis, Op};
 use std::alloc::AllocError;
@@ -80,8 +80,7 @@ pub fn push_chain(
     // for the prover: no member of the basis is above 15
     let _members = basis.get();
     let mut at = [Sig::Zero; 16];
-    put(&mut at, Op::new(3), a);
-    put(&mut at, Op::new(5), b);
+    put_operands(&mut at, a, b);
     push_joins(sources, gates, joins, &mut at)?;
     Ok(signal_of(&at, op))
 }

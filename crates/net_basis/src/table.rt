@@ -22,3 +22,14 @@ pub fn put(table: &mut [Sig], function: Op, sig: Sig)
 {
     table[usize::from(function.get())] = sig;
 }
+
+/// Writes the signals of the functions a and b, which are 3 and 5.
+pub fn put_operands(table: &mut [Sig], a: Sig, b: Sig)
+    requires { length table.old ≡ 16 }
+    ensures first { nodes_of table.new 3 ≡ a }
+    ensures second { nodes_of table.new 5 ≡ b }
+    ensures whole { length table.new ≡ length table.old }
+{
+    put(table, Op::new(3), a);
+    put(table, Op::new(5), b);
+}

@@ -1,5 +1,5 @@
 -- The operands at first, one more step, and the end.
-use Rattle.std.proofs.Common.{◌≡◌, ◌∙◌, ℕ, Bool, true, ap}
+use Rattle.std.proofs.Common.{◌∙◌, ℕ, true, ap}
 use Rattle.chain_theory.specs.Value.{extended}
 use Rattle.op_basis.specs.Basis.{members}
 use Rattle.net_basis.proofs.Closures.{growing_first, growing_more, growing_less, growing_closed}

@@ -1,10 +1,9 @@
 -- The step for one more gate, and a gate that can't be expressed.
-use Rattle.std.proofs.Common.{◌≡◌, ◌∙◌, ℕ, ◌+◌, List, length, ap, sym, subst, arith}
+use Rattle.std.proofs.Common.{◌≡◌, ◌∙◌, ℕ, ◌+◌, List, length, ap, subst, arith}
 use Rattle.std.proofs.lemmas.List.{length-set}
 use Rattle.op_basis.specs.Basis.{members}
 use Rattle.net_theory.specs.declared.data.Sig.{Sig}
 use Rattle.net_theory.specs.declared.data.Gate.{Gate}
-use Rattle.net_theory.specs.Net.{IsGateAt}
 use Rattle.net_theory.specs.Moving.{moved_gate}
 use Rattle.net_core.specs.Marks.{nodes_of, kept}
 use Rattle.net_basis.specs.OverBasis.{IsInexpressible}

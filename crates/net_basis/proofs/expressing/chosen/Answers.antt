@@ -1,4 +1,4 @@
-use Rattle.std.proofs.Common.{◌≡◌, ◌∙◌, ℕ, Bool, ap, rules}
+use Rattle.std.proofs.Common.{◌≡◌, ◌∙◌, ℕ, ap, rules}
 use Rattle.chain_theory.specs.Operator.{apply}
 use Rattle.net_theory.specs.Net.{sig_value}
 use Rattle.net_basis.specs.Conversion.{on_equal}

@@ -1,5 +1,4 @@
 -- The recipes of the operators below `word`.
-use Rattle.std.proofs.Common.{◌≡◌, length}
 use Rattle.op_basis.specs.Basis.{members}
 use Rattle.net_basis.proofs.Recipes.{AreFirstRecipes}
 use Rattle.net_basis.proofs.recipe.recipes.Given as goal
