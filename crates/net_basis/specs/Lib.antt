@@ -4,3 +4,4 @@ pub mod OverBasis
 pub mod Placing
 pub mod Conversion
 pub mod OverBasisLaws
+pub mod InexpressibleLaws

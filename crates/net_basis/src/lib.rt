@@ -24,6 +24,7 @@ mod closure;
 mod converting;
 mod expressing;
 mod join;
+pub mod laws;
 mod least;
 mod placing;
 mod recipe;
