@@ -125,6 +125,9 @@ const ADDER: &[u8] = b"INPUT(a)\nINPUT(b)\nINPUT(c)\nOUTPUT(s)\nOUTPUT(d)\n\
 
 /// How many gates the circuit has over a basis; 0 where the basis can't express it.
 fn gates_over(alloc: Global, text: &[u8], basis: Basis) -> Result<usize, AllocError> {
+    if text.len() > 1000 {
+        return Ok(0);
+    }
     let Ok(circuit) = read_bench(alloc, text) else {
         return Ok(0);
     };
