@@ -7,7 +7,7 @@
 //! Where the operands of a gate are equal, the chain is that of a copy or a complement.
 //!
 //! The main theorem is the contract of `over_basis`: the circuit has the same names and the same behaviour, and every
-//! gate has an operator of the basis. That the chains are least isn't proved, but tested.
+//! gate has an operator of the basis. That the chains are least isn't proved.
 //!
 //! ```text
 //! match over_basis(alloc, circuit, basis)? {
