@@ -37,7 +37,7 @@ fn sink_values(alloc: Global, net: &Net, row: u32) -> Result<Vec<u8>, AllocError
 }
 
 /// Whether two nets have the same values under all assignments; false for nets of more than six sources.
-pub fn are_equivalent(alloc: Global, net: &Net, other: &Net) -> Result<bool, AllocError> {
+fn are_equivalent(alloc: Global, net: &Net, other: &Net) -> Result<bool, AllocError> {
     if net.sources() > 6 || other.sources() != net.sources() {
         return Ok(false);
     }

@@ -1,0 +1,7 @@
+pub mod Sets
+pub mod Every
+pub mod Counts
+pub mod Closures
+pub mod Recipes
+pub mod Placements
+pub mod Conversions

@@ -1,0 +1,75 @@
+//! A step of a chain for an operator, by the functions that it reads and makes.
+ghost use Rattle.std.specs.Prelude.{◌≡◌, ◌≤◌, ◌<◌, true};
+ghost use Rattle.chain_theory.specs.Value.{extended};
+ghost use Rattle.op_basis.specs.Basis.{members};
+ghost use Rattle.net_basis.specs.Joins.{function_of as function_of_join, operands as operands_of};
+ghost use Rattle.net_basis.specs.Joins.{may_join as may_join_of, makes as makes_of};
+
+use op_basis::{Basis, Op};
+
+/// A step of a chain with the inputs a and b: an operator, and the functions of a and b that it reads, each of them
+/// named by its operator.
+#[derive(Clone, Copy)]
+pub struct Join {
+    pub op: Op,
+    pub first: Op,
+    pub second: Op,
+}
+
+/// The function of a and b that the step makes.
+#[tactic(auto, unfolding(crate::specs::Joins::joined))]
+pub fn function_of(join: &Join) -> Op
+    ensures { result ≡ function_of_join join.now }
+{
+    let Join { op, first, second } = *join;
+    Op::with_values(
+        op.apply(first.apply(false, false), second.apply(false, false)),
+        op.apply(first.apply(false, true), second.apply(false, true)),
+        op.apply(first.apply(true, false), second.apply(true, false)),
+        op.apply(first.apply(true, true), second.apply(true, true)),
+    )
+}
+
+/// The set with one more function.
+#[tactic(auto, using(crate::proofs::Sets::growing))]
+pub fn with_function(known: Basis, function: Op) -> Basis
+    ensures members { members result ≡ extended (members known) function true }
+    ensures more { known ≤ result }
+    ensures below { result < 65536 }
+{
+    Basis::new(known.get() | 1 << function.get())
+}
+
+/// The set of the functions a and b, which are 3 and 5.
+pub fn operands() -> Basis
+    ensures { members result ≡ operands_of }
+{
+    let none = Basis::new(0);
+    let first = Op::new(3);
+    let second = Op::new(5);
+    with_function(with_function(none, first), second)
+}
+
+/// Whether the step's operator is in the basis, and the functions that it reads are known.
+pub fn may_join(basis: Basis, known: Basis, join: &Join) -> bool
+    ensures { result ≡ may_join_of (members basis) (members known) join.now }
+{
+    basis.contains(join.op) && known.contains(join.first) && known.contains(join.second)
+}
+
+/// Whether the steps are over the basis, read only what is known by then, and make the function.
+#[tactic(auto, unfolding(crate::specs::Joins::makes))]
+pub fn makes(basis: Basis, known: Basis, joins: &[Join], function: Op) -> bool
+    ensures { result ≡ makes_of (members basis) (members known) joins.now function }
+{
+    let Some((join, rest)) = joins.split_first() else {
+        return known.contains(function);
+    };
+    may_join(basis, known, join)
+        && makes(
+            basis,
+            with_function(known, function_of(join)),
+            rest,
+            function,
+        )
+}

@@ -1,0 +1,35 @@
+//! Circuits over a basis and nothing else: a NAND netlist, or an AIG whose complements are free (`u2`).
+//!
+//! Each gate whose operator isn't in the basis is replaced by a least chain of gates over the basis. The sixteen
+//! operators have at most one chain each, which is found once (`least`) and tested by the functions of its steps
+//! (`join`). Where there is none, the closure of both operands under the basis (`closure`) is a set of functions
+//! without the operator, so the basis can't express it. A constant is a signal and needs no gate, nor does a copy.
+//! Where the operands of a gate are equal, the chain is that of a copy or a complement.
+//!
+//! The main theorem is the contract of `over_basis`: the circuit has the same names and the same behaviour, and every
+//! gate has an operator of the basis. That the chains are least isn't proved.
+//!
+//! ```text
+//! match over_basis(alloc, circuit, basis)? {
+//!     Converted::Over(circuit) => ..,           // XOR over NAND has four gates
+//!     Converted::Cannot(circuit, node) => ..,   // AND over XOR
+//!     Converted::TooMany(circuit) => ..,
+//! }
+//! ```
+#![tactic(auto)]
+
+mod answer;
+mod circuits;
+mod closure;
+mod converting;
+mod expressing;
+mod join;
+pub mod laws;
+mod least;
+mod placing;
+mod recipe;
+mod table;
+
+pub use answer::{Converted, NetOver};
+pub use circuits::over_basis;
+pub use converting::net_over;
