@@ -1,2 +1,0 @@
-pub mod WishLaws
-pub mod WishReport

@@ -1,2 +1,0 @@
-pub mod WishAsked
-pub mod WishRuns

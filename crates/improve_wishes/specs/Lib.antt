@@ -1,4 +1,0 @@
-pub mod LevelsReport
-pub mod TellingLaws
-pub mod Wished
-pub mod WishedLaws

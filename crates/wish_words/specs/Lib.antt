@@ -1,2 +1,0 @@
-pub mod WishWords
-pub mod Read
