@@ -1,0 +1,2 @@
+pub mod WishLaws
+pub mod WishReport

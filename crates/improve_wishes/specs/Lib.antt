@@ -1,0 +1,4 @@
+pub mod LevelsReport
+pub mod TellingLaws
+pub mod Wished
+pub mod WishedLaws

@@ -1,0 +1,32 @@
+//! The wishes.
+
+/// How many levels the written netlist may have, and whether the report tells them.
+#[derive(Clone, Copy, PartialEq, Eq)]
+pub enum LevelsAsked {
+    /// Any number, which isn't told.
+    Untold,
+    /// Any number.
+    Tell,
+    /// No more than there were.
+    Keep,
+    /// No more than so many, or than there were where these are more.
+    Most(u32),
+}
+
+/// The form of an AIGER file that is written.
+#[derive(Clone, Copy, PartialEq, Eq)]
+pub enum FormAsked {
+    /// The form that was read.
+    Given,
+    /// The ASCII form.
+    Ascii,
+    /// The binary form.
+    Binary,
+}
+
+/// What is wished of the netlist that is written.
+#[derive(Clone, Copy, PartialEq, Eq)]
+pub struct Wishes {
+    pub levels: LevelsAsked,
+    pub form: FormAsked,
+}

@@ -1,0 +1,2 @@
+pub mod WishWords
+pub mod Read
