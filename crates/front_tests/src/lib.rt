@@ -1,9 +1,7 @@
-//! Tests of the front and of its layers over files in memory, with fault injection.
+//! Tests of the layers of the front over files in memory.
 #![tactic(auto)]
 
 #[cfg(test)]
 mod files;
 #[cfg(test)]
 mod layers;
-#[cfg(test)]
-mod runs;
