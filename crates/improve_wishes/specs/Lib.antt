@@ -1,3 +1,4 @@
+pub mod Covers
 pub mod LevelsReport
 pub mod TellingLaws
 pub mod Wished

@@ -6,6 +6,7 @@ ghost use Rattle.bench_core.specs.Bench.{bench_format};
 ghost use Rattle.aiger_forms.specs.Forms.{aiger_forms};
 ghost use Rattle.settings.specs.Improve.{IsInRange};
 ghost use Rattle.improve_windows.specs.Improving.{FitsFormat};
+ghost use Rattle.improve_wishes.specs.Covers.{blif_in};
 ghost use Rattle.improve_wishes.specs.Wished.{IsWished};
 
 use crate::writing::{aiger_of, bench_of, blif_of};
@@ -13,6 +14,7 @@ use aiger_forms::{forms_are_a_format, read_forms};
 use bench_core::read_bench;
 use bench_laws::bench_is_a_format;
 use blif_core::read_blif;
+use blif_covers::least_is_a_format;
 use blif_laws::blif_is_a_format;
 use improve_windows::ImprovedText;
 use net_core::NetError;
@@ -22,7 +24,8 @@ use settings::ImproveSettings;
 use std::alloc::Global;
 use wish_names::Wishes;
 
-/// Improves a BLIF netlist by the settings and the wishes. It is refused as `improve_blif` refuses it.
+/// Improves a BLIF netlist by the settings and the wishes, and writes it with the covers that are wished for. It is
+/// refused as `improve_blif` refuses it.
 #[tactic(auto, using(crate::specs::WishedLaws::texts))]
 pub fn wished_blif<S: Solver, T: Tell>(
     alloc: Global,
@@ -33,13 +36,15 @@ pub fn wished_blif<S: Solver, T: Tell>(
 ) -> Result<ImprovedText, NetError>
     requires size { length bytes.now < 2 ^ 31 }
     requires range { IsInRange settings }
-    ensures wished { IfOk result (λ i. IsWished blif_format settings wishes bytes.now i.text.items i.report.items) }
+    ensures wished { IfOk result (λ i. IsWished (blif_in wishes.covers) settings wishes bytes.now i.text.items
+        i.report.items) }
     ensures refused { IfErr result (IsRefusedText blif_format bytes.now) }
 {
     // for the prover: the laws of BLIF
     blif_is_a_format();
+    least_is_a_format();
     let circuit = read_blif(alloc, bytes)?;
-    let improved = blif_of::<S, T>(alloc, circuit, settings, wishes.levels, tell)?;
+    let improved = blif_of::<S, T>(alloc, circuit, settings, wishes, tell)?;
     Ok(improved)
 }
 
