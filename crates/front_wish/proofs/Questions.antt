@@ -56,12 +56,14 @@ ready_if false n asked is e = none_some n e
 -- The settings of `improve` are in their ranges, and its basis fits the format.
 ready_format : (format : asked_format.Format) (aiger : Bool) (s : ImproveSettings) (n : NetAsked) → IsAsked format s →
     format_asked format aiger s ≡ Some n → IsReady n.format n.settings
-ready_format command_formats.Blif false s n is e = ready_at n (net_asked Blif s) e (is.range, λ op has. refl)
+ready_format command_formats.Blif false s n is e =
+    ready_at n (net_asked Blif s) e (record { range = is.range; basis = λ op has. refl })
 ready_format command_formats.Blif true s n is e =
     ready_if (has_and_gates s.basis) n (net_asked Aiger s)
-    (λ has. (is.range, fits_aiger s (within_members s.basis and_set has))) e
+    (λ has. record { range = is.range; basis = fits_aiger s (within_members s.basis and_set has) }) e
 ready_format command_formats.Bench false s n is e =
-    ready_at n (net_asked Bench s) e (is.range, fits_bench s (within_members s.basis bench_set is.basis))
+    ready_at n (net_asked Bench s) e
+    (record { range = is.range; basis = fits_bench s (within_members s.basis bench_set is.basis) })
 ready_format command_formats.Bench true s n is e = none_some n e
 
 ready_of : (c : Command) (aiger : Bool) (n : NetAsked) → IsAskable c → asked_in c aiger ≡ Some n → IsReady n.format n.settings

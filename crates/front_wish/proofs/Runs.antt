@@ -3,7 +3,10 @@ use Rattle.std.specs.Prelude.{◌≡◌, ℕ, List, [], Option}
 use Rattle.std.proofs.Common.{subst}
 use Rattle.std.proofs.lemmas.Grind.{common_steps}
 use Rattle.format_names.specs.declared.formats.NetFormat.{NetFormat}
+use Rattle.net_formats.specs.Formats.{format_of}
 use Rattle.settings.specs.declared.improve.ImproveSettings.{ImproveSettings}
+use Rattle.settings.specs.Improve.{IsInRange}
+use Rattle.improve_windows.specs.Improving.{FitsFormat}
 use Rattle.wish_names.specs.declared.wishes.Wishes.{Wishes}
 use Rattle.frame_core.specs.declared.status.Status.{Status}
 use Rattle.frame_core.specs.Outside.{PortState}
@@ -17,7 +20,7 @@ use Rattle.front_core.specs.Asked.{name_in, first_in}
 use Rattle.front_core.specs.Front.{front_run, IsDone}
 use Rattle.front_formula.specs.FormulaRuns.{Performs}
 use Rattle.front_guide.specs.Guided.{IsFollowed}
-use Rattle.front_wish.specs.AskedWishes.{Wish}
+use Rattle.front_wish.specs.AskedWishes.{Wish, IsReady}
 use Rattle.front_wish.specs.WishRuns.{task_of, IsWishDone, IsWishServed}
 
 -- ---- the command
@@ -30,7 +33,13 @@ performed format settings wishes state source out note status performed = record
   unchanged = still state;
 }
 
-pub ruleset performing = (common_steps, performed)
+range_of : (format : NetFormat) (settings : ImproveSettings) → IsReady format settings → IsInRange settings
+range_of format settings ready = ready.range
+
+fits_of : (format : NetFormat) (settings : ImproveSettings) → IsReady format settings → FitsFormat (format_of format) settings
+fits_of format settings ready = ready.basis
+
+pub ruleset performing = (common_steps, performed, range_of, fits_of)
 
 -- ---- an answer
 

@@ -83,5 +83,6 @@ wish_value wish = record {
 }
 
 -- The settings are in their ranges, and the basis has only operators that the format's gates have.
-abbrev pub IsReady : NetFormat → ImproveSettings → Type 0
-IsReady format settings = IsInRange settings × FitsFormat (format_of format) settings
+pub record IsReady (format : NetFormat) (settings : ImproveSettings) : Type 0 where
+  pub range : IsInRange settings
+  pub basis : FitsFormat (format_of format) settings
