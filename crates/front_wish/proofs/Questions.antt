@@ -1,12 +1,13 @@
 -- What words wish.
-use Rattle.std.specs.Prelude.{◌≡◌, ℕ, List, Bool, true, false, Option, Some, None, Ok, Err, refl}
+use Rattle.std.specs.Prelude.{◌≡◌, ℕ, List, Bool, true, false, if◌then◌else◌, Option, Some, None, Ok, Err, refl}
 use Rattle.std.specs.Option.{option_map}
 use Rattle.std.proofs.Common.{sym, ◌∙◌, ap, subst}
 use Rattle.std.proofs.lemmas.Bool.{cond-true, cond-false}
 use Rattle.std.proofs.lemmas.Grind.{common_steps}
 use Rattle.op_basis.specs.Text.{bench_set}
 use Rattle.command_line.specs.declared.command.Command.{Command}
-use Rattle.command_line.specs.declared.command.Command.TheVariants.{Agree, Recheck, RecheckDepth, Synth, LeastDepth, Improve, Equiv, Gen}
+use Rattle.command_line.specs.declared.command.Command.TheVariants.{Agree, Recheck, RecheckDepth, Synth, LeastDepth}
+use Rattle.command_line.specs.declared.command.Command.TheVariants.{Improve, Equiv, Gen}
 use Rattle.command_line.specs.declared.command.Format as asked_format
 use Rattle.command_line.specs.declared.command.Format.TheVariants as command_formats
 use Rattle.command_line.specs.declared.command.WordsError.{WordsError}
@@ -26,7 +27,8 @@ use Rattle.improve_aiger.specs.AigerLaws.{and_set, fits_aiger}
 use Rattle.cmd_formats.specs.AigerReport.{has_and_gates}
 use Rattle.front_core.specs.Asked.{fits}
 use Rattle.front_wish.specs.declared.asking.NetAsked.{NetAsked}
-use Rattle.front_wish.specs.AskedWishes.{net_asked, format_asked, asked_in, Wish, wish_from, wish_by, with_words, wish_as, wish_on, wish_of, IsReady}
+use Rattle.front_wish.specs.AskedWishes.{net_asked, format_asked, asked_in, IsReady}
+use Rattle.front_wish.specs.AskedWishes.{Wish, wish_from, wish_by, with_words, wish_as, wish_on, wish_of}
 
 -- ---- commands
 
@@ -45,7 +47,8 @@ some_same a b e = cc
 none_some : {A T : Type 0} (a : T) → None ≡ Some a → A
 none_some a e = absurd cc
 
-ready_at : (n : NetAsked) (asked : NetAsked) → Some asked ≡ Some n → IsReady asked.format asked.settings → IsReady n.format n.settings
+ready_at : (n asked : NetAsked) → Some asked ≡ Some n → IsReady asked.format asked.settings →
+    IsReady n.format n.settings
 ready_at n asked e is = subst (λ (x : NetAsked). IsReady x.format x.settings) (some_same asked n e) is
 
 ready_if : (b : Bool) (n asked : NetAsked) → (b ≡ true → IsReady asked.format asked.settings) →
@@ -66,7 +69,8 @@ ready_format command_formats.Bench false s n is e =
     (record { range = is.range; basis = fits_bench s (within_members s.basis bench_set is.basis) })
 ready_format command_formats.Bench true s n is e = none_some n e
 
-ready_of : (c : Command) (aiger : Bool) (n : NetAsked) → IsAskable c → asked_in c aiger ≡ Some n → IsReady n.format n.settings
+ready_of : (c : Command) (aiger : Bool) (n : NetAsked) → IsAskable c → asked_in c aiger ≡ Some n →
+    IsReady n.format n.settings
 ready_of (Improve format s) aiger n is e = ready_format format aiger s n is e
 ready_of Agree aiger n is e = none_some n e
 ready_of Recheck aiger n is e = none_some n e

@@ -26,17 +26,19 @@ use Rattle.front_wish.specs.WishRuns.{task_of, IsWishDone, IsWishServed}
 -- ---- the command
 
 pub performed : (format : NetFormat) (settings : ImproveSettings) (wishes : Wishes) (state : FilesState)
-    (source out note : Pass) (status : Status) → IsPerformed (wished_task format settings wishes) source out note status →
+    (source out note : Pass) (status : Status) →
+    IsPerformed (wished_task format settings wishes) source out note status →
     IsApart (Performs (wished_task format settings wishes)) (state, state) source out note status
-performed format settings wishes state source out note status performed = record {
-  work = performed.promise [] (wished_is_task format settings wishes);
+performed format settings wishes state source out note status is = record {
+  work = is.promise [] (wished_is_task format settings wishes);
   unchanged = still state;
 }
 
-range_of : (format : NetFormat) (settings : ImproveSettings) → IsReady format settings → IsInRange settings
+pub range_of : (format : NetFormat) (settings : ImproveSettings) → IsReady format settings → IsInRange settings
 range_of format settings ready = ready.range
 
-fits_of : (format : NetFormat) (settings : ImproveSettings) → IsReady format settings → FitsFormat (format_of format) settings
+pub fits_of : (format : NetFormat) (settings : ImproveSettings) → IsReady format settings →
+    FitsFormat (format_of format) settings
 fits_of format settings ready = ready.basis
 
 pub ruleset performing = (common_steps, performed, range_of, fits_of)
@@ -46,10 +48,12 @@ pub ruleset performing = (common_steps, performed, range_of, fits_of)
 -- the file by its name
 pub answered : (w : Wish) (input : Option (List ℕ)) (files : Files) (source out note : Pass) (status : Status) →
     input ≡ name_in (first_in w.line.operands) →
-    ((all : List (List ℕ)) → IsDone w.line (IsRead input (IsApart (Performs (task_of w)))) (front_run all files source out note status)) →
+    ((all : List (List ℕ)) →
+    IsDone w.line (IsRead input (IsApart (Performs (task_of w)))) (front_run all files source out note status)) →
     (words : List (List ℕ)) → IsWishDone w (front_run words files source out note status)
 answered w input files source out note status i done words =
-    subst (λ (x : Option (List ℕ)). IsDone w.line (IsRead x (IsApart (Performs (task_of w)))) (front_run words files source out note status)) i
+    subst (λ (x : Option (List ℕ)).
+    IsDone w.line (IsRead x (IsApart (Performs (task_of w)))) (front_run words files source out note status)) i
     (done words)
 
 pub ruleset answers = (common_steps, answered)
