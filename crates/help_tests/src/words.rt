@@ -68,6 +68,10 @@ const WRONG: &[(&str, &str)] = &[
          and not 'all' (batsokemi help improve)\n",
     ),
     (
+        "improve --levels x a",
+        "batsokemi: --levels takes tell, keep, or 0 to 1000000, and not 'x' (batsokemi help improve)\n",
+    ),
+    (
         "formula --log l -",
         "batsokemi: with --log the certificate is read twice: it has to be a file (batsokemi help formula)\n",
     ),
