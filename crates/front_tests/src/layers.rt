@@ -4,8 +4,15 @@ use crate::files::{Known, files_of, words_of};
 use format_names::{FormatPair, NetFormat};
 use frame_tests::{Echo, MemoryFiles};
 use front_app::{Remembering, Retelling};
+use front_guide::Improves;
 use port_io::{MemorySink, MemorySource};
 use std::alloc::{AllocError, Global};
+
+impl Improves for Echo {
+    fn improved(&self) -> Option<NetFormat> {
+        None
+    }
+}
 
 /// The layers.
 #[derive(Clone, Copy)]
