@@ -125,7 +125,7 @@ const WRONG: &[(&str, &str)] = &[
         "batsokemi: with --formula both netlists are read twice: they have to be files (batsokemi help equiv)\n",
     ),
     (
-        "improve --basis all -- x.aag",
+        "improve --basis all --format blif -- x.aag",
         "batsokemi: for AIGER the basis is without 0110 and 1001, as u2 or nand, and not 'all' \
          (batsokemi help improve)\n",
     ),
