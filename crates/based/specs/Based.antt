@@ -9,7 +9,7 @@ use Rattle.net_theory.specs.Naming.{gate_names}
 use Rattle.net_document.specs.Equivalence.{AreEquivalentCircuits}
 use Rattle.net_basis.specs.OverBasis.{IsNetOver, IsInexpressibleAt}
 use Rattle.based.specs.declared.answer.Based.{Based}
-use Rattle.based.specs.declared.answer.Based.TheVariants.{Over, Cannot, TooMany}
+use Rattle.based.specs.declared.answer.Based.TheVariants.{Base, Cannot, TooMany}
 
 -- ---- what isn't dangling
 
@@ -47,17 +47,23 @@ pub record IsInexpressibleBy (basis : Basis) (c : Circuit) (name : Name) : Type 
   pub inexpressible : IsInexpressibleAt basis c.net node
   pub named : name ≡ gate_name c node
 
-abbrev pub IfOver : Based → (Circuit → Type 0) → Type 0
-IfOver (Over b) P = P b
-IfOver (Cannot name) P = Unit {0}
-IfOver TooMany P = Unit {0}
+abbrev pub IfBase : Based → (Circuit → Type 0) → Type 0
+IfBase (Base b) P = P b
+IfBase (Cannot name) P = Unit {0}
+IfBase TooMany P = Unit {0}
 
 abbrev pub IfCannot : Based → (Name → Type 0) → Type 0
-IfCannot (Over b) P = Unit {0}
+IfCannot (Base b) P = Unit {0}
 IfCannot (Cannot name) P = P name.items
 IfCannot TooMany P = Unit {0}
 
 abbrev pub IfTooMany : Based → Type 0 → Type 0
-IfTooMany (Over b) P = Unit {0}
+IfTooMany (Base b) P = Unit {0}
 IfTooMany (Cannot name) P = Unit {0}
 IfTooMany TooMany P = P
+
+-- there is no circuit
+abbrev pub IfNone : Based → Type 0 → Type 0
+IfNone (Base b) P = Unit {0}
+IfNone (Cannot name) P = P
+IfNone TooMany P = P

@@ -15,8 +15,8 @@ use Rattle.net_basis.specs.declared.answer.Converted.TheVariants as circuits
 use Rattle.net_basis.specs.OverBasis as low
 use Rattle.net_basis.specs.OverBasis.{IsCircuitOver, IsInexpressibleAt, MayHaveTooMany}
 use Rattle.based.specs.declared.answer.Based.{Based}
-use Rattle.based.specs.declared.answer.Based.TheVariants.{Over, Cannot, TooMany}
-use Rattle.based.specs.Based.{left_of, gate_name, IsBasedOn, IsInexpressibleBy, IfOver, IfCannot, IfTooMany}
+use Rattle.based.specs.declared.answer.Based.TheVariants.{Base, Cannot, TooMany}
+use Rattle.based.specs.Based.{left_of, gate_name, IsBasedOn, IsInexpressibleBy, IfBase, IfCannot, IfTooMany}
 
 -- ---- what isn't dangling
 
@@ -29,7 +29,7 @@ left_proper c k m is implements same = subst IsProper (sym same) (exchanged_prop
 pub left_implements : (c k : Circuit) (m : Net) → Implements c.net m → k ≡ with_net c m → Implements c.net k.net
 left_implements c k m implements same = subst (λ (x : Circuit). Implements c.net x.net) (sym same) implements
 
-pub ruleset cleaning = (common_steps, left_is, left_proper, left_implements)
+pub ruleset cleaning = (common_steps, left_is, left_implements)
 
 -- ---- what was converted
 
@@ -91,8 +91,8 @@ based_on basis c b k is implements over = record {
 }
 
 pub over_left : (basis : Basis) (c k : Circuit) (found : Based) → k ≡ left_of c → Implements c.net k.net →
-    IfOver found (IsCircuitOver basis k) → IfOver found (IsBasedOn basis c)
-over_left basis c k (Over b) is implements over = based_on basis c b k is implements over
+    IfBase found (IsCircuitOver basis k) → IfBase found (IsBasedOn basis c)
+over_left basis c k (Base b) is implements over = based_on basis c b k is implements over
 over_left basis c k (Cannot name) is implements over = tt
 over_left basis c k TooMany is implements over = tt
 

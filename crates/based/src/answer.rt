@@ -5,7 +5,7 @@ use net_core::Circuit;
 #[derive(Drop)]
 pub enum Based {
     /// The circuit.
-    Over(Circuit),
+    Base(Circuit),
     /// The basis can't express the operator of the gate that is written by this name.
     Cannot(Vec<u8>),
     /// Over the basis there could be more than 100,000 gates, or 2^31 nodes.

@@ -4,7 +4,7 @@ ghost use Rattle.op_basis.specs.Basis.{members};
 ghost use Rattle.net_theory.specs.Circuit.{IsProper};
 ghost use Rattle.net_theory.specs.Dangling.{cleanup};
 ghost use Rattle.net_basis.specs.OverBasis.{IsCircuitOver, MayHaveTooMany};
-ghost use Rattle.based.specs.Based.{left_of, IsBasedOn, IsInexpressibleBy, IfOver, IfCannot, IfTooMany};
+ghost use Rattle.based.specs.Based.{left_of, IsBasedOn, IsInexpressibleBy, IfBase, IfCannot, IfTooMany};
 
 use crate::answer::Based;
 use crate::cleaning::cleaned;
@@ -18,13 +18,13 @@ use std::alloc::{AllocError, Global};
 #[tactic(auto, using(crate::specs::BasedLaws::converting))]
 fn converted(alloc: Global, circuit: Circuit, basis: Basis) -> Result<Based, AllocError>
     requires { IsProper circuit }
-    ensures over { IfOk result (λ b. IfOver b (IsCircuitOver (members basis) circuit)) }
+    ensures base { IfOk result (λ b. IfBase b (IsCircuitOver (members basis) circuit)) }
     ensures cannot { IfOk result (λ b. IfCannot b (IsInexpressibleBy (members basis) circuit)) }
     ensures too_many { IfOk result (λ b. IfTooMany b (MayHaveTooMany (members basis) circuit.net)) }
 {
     let found = over_basis(alloc, circuit, basis)?;
     match found {
-        Converted::Over(over) => Ok(Based::Over(over)),
+        Converted::Over(over) => Ok(Based::Base(over)),
         Converted::Cannot(left, node) => {
             let name = gate_name(alloc, &left, node)?;
             Ok(Based::Cannot(name))
@@ -38,7 +38,7 @@ fn converted(alloc: Global, circuit: Circuit, basis: Basis) -> Result<Based, All
 #[tactic(auto, using(crate::specs::BasedLaws::basing))]
 pub fn based_circuit(alloc: Global, circuit: Circuit, basis: Basis) -> Result<Based, AllocError>
     requires { IsProper circuit }
-    ensures over { IfOk result (λ b. IfOver b (IsBasedOn (members basis) circuit)) }
+    ensures base { IfOk result (λ b. IfBase b (IsBasedOn (members basis) circuit)) }
     ensures cannot { IfOk result (λ b. IfCannot b (IsInexpressibleBy (members basis) (left_of circuit))) }
     ensures too_many { IfOk result (λ b. IfTooMany b (MayHaveTooMany (members basis) (cleanup circuit.net))) }
 {

@@ -7,7 +7,7 @@
 //!
 //! ```text
 //! match based_circuit(alloc, circuit, basis)? {
-//!     Based::Over(circuit) => ..,
+//!     Based::Base(circuit) => ..,
 //!     Based::Cannot(name) => ..,   // AND over XOR
 //!     Based::TooMany => ..,
 //! }
