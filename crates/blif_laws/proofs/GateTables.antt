@@ -118,7 +118,7 @@ constant_is bit output is = record {
     narrow = omega arith;
     few = omega (arith, row_few bit []);
   };
-  on = refl;
+  on = λ e. refl;
   cubes = refl;
 }
 
@@ -137,7 +137,7 @@ unary_is at_zero at_one input output is_in is_out = record {
     narrow = omega arith;
     few = omega (arith, row_few at_zero (48 ∷ []), row_few at_one (49 ∷ []), length-append (row_if at_zero (48 ∷ [])) (row_if at_one (49 ∷ [])));
   };
-  on = refl;
+  on = λ e. refl;
   cubes = refl;
 }
 
@@ -175,7 +175,7 @@ binary_is op first second output is_first is_second is_out = record {
     narrow = omega arith;
     few = omega (arith, (binary_cubes_are op).1);
   };
-  on = refl;
+  on = λ e. refl;
   cubes = refl;
 }
 

@@ -1,10 +1,10 @@
 -- How lines of words change the parser state, one after the other.
-use Rattle.std.specs.Prelude.{◌≡◌, ℕ, zero, suc, ◌+◌, ◌≤◌, ◌<◌, Bool, true, false, not, ◌&&◌, ◌||◌, ◌==◌, nat_le}
+use Rattle.std.specs.Prelude.{◌≡◌, ℕ, zero, suc, ◌+◌, ◌≤◌, ◌<◌, Bool, true, false, not, ◌&&◌, ◌==◌, nat_le}
 use Rattle.std.specs.Prelude.{nat_lt, if◌then◌else◌, List, [], ◌∷◌, ◌++◌, length, map, All, Option, Some, None, Result}
 use Rattle.std.specs.Prelude.{Ok, Err, codes, refl}
 use Rattle.std.specs.List.{flat_map, list_all}
 use Rattle.std.proofs.Common.{arith, sym, ◌∙◌, ap, subst, append_assoc, append-nil, length-append}
-use Rattle.std.proofs.lemmas.Bool.{and_from, and_parts, or_right, cond-true, cond-false, cond_both, eq-eqb, eqb-true, false_from_ne_true, lt-leb, le-ltb}
+use Rattle.std.proofs.lemmas.Bool.{and_from, and_parts, cond-true, cond-false, cond_both, eq-eqb, eqb-true, false_from_ne_true, lt-leb, le-ltb}
 use Rattle.std.proofs.lemmas.List.Elements.{All-nil, All-cons, All-push, All-head, All-tail}
 use Rattle.text_core.specs.Lines.{lines_from}
 use Rattle.net_theory.specs.declared.data.Trigger.{Trigger}
@@ -15,13 +15,12 @@ use Rattle.net_theory.specs.WellFormed.{IsTable, IsLatchLine, IsControl, IsInit}
 use Rattle.net_core.specs.declared.error.NetError.{NetError}
 use Rattle.blif_text.specs.Reading.{◌>>=◌}
 use Rattle.blif_text.specs.Logical.{logical_from, logical_of}
-use Rattle.net_document.specs.Contents.{is_nothing}
-use Rattle.blif_text.specs.Rows.{bit_in, cover_line_in, with_row, row_of}
+use Rattle.blif_text.specs.Rows.{bit_in, cover_line_in, row_with, agrees, with_row, row_of}
 use Rattle.blif_text.specs.Latches.{trigger_in, init_in, tail_with, with_control, tail_by, tail_by_both, tail_in, latch_with, latch_of}
 use Rattle.blif_text.specs.Statements.{Said, nothing, closed, are_names, with_model, prefix_of, last_of, empty_table}
 use Rattle.blif_text.specs.Statements.{table_of, with_table, with_latch, directed, begins_dot, keyword_of, stated}
 use Rattle.blif_text.specs.Statements.{steps, listed_by}
-use Rattle.blif_core.specs.Spelling.{trigger_text}
+use Rattle.blif_core.specs.Spelling.{trigger_text, digit_text}
 use Rattle.blif_laws.specs.Spelled.{IsSpelledTable}
 use Rattle.blif_laws.proofs.WordLines.{line_of, logical_line, step_line}
 use Rattle.net_theory.specs.Limits.{most_table_inputs, most_cubes}
@@ -286,16 +285,25 @@ abbrev pub names_line : Table → WordLine
 names_line t = line (codes ".names") (t.inputs ++ t.output ∷ [])
 
 -- a cover line; in a table without inputs it has only the output value
-abbrev pub row_line : List ℕ → WordLine
-row_line [] = line (49 ∷ []) []
-row_line (b ∷ bs) = line (b ∷ bs) ((49 ∷ []) ∷ [])
+abbrev pub row_line : Bool → List ℕ → WordLine
+row_line on [] = line (digit_text on ∷ []) []
+row_line on (b ∷ bs) = line (b ∷ bs) ((digit_text on ∷ []) ∷ [])
 
 abbrev pub table_lines : Table → List WordLine
-table_lines t = names_line t ∷ map row_line t.cover.cubes
+table_lines t = names_line t ∷ map (row_line t.cover.on) t.cover.cubes
 
--- a table with the given cubes of the on-set
-abbrev with_cubes : Table → List (List ℕ) → Table
-with_cubes t cubes = record { inputs = t.inputs; output = t.output; cover = record { width = t.cover.width; cubes = cubes; on = true; parity = false } }
+-- what is known of `on` after lines with these cubes
+abbrev known_on : Bool → List (List ℕ) → Bool
+known_on on [] = true
+known_on on (c ∷ cs) = on
+
+-- a table with the given cubes of the on-set or the off-set
+abbrev with_cubes : Bool → Table → List (List ℕ) → Table
+with_cubes on t cubes = record {
+  inputs = t.inputs;
+  output = t.output;
+  cover = record { width = t.cover.width; cubes = cubes; on = known_on on cubes; parity = false };
+}
 
 prefix_back : (w : Name) (ws : List Name) (output : Name) → prefix_of w (ws ++ output ∷ []) ≡ w ∷ ws
 unfolding prefix_of
@@ -325,70 +333,111 @@ cube_no_dot width b bs is =
     let no : false ≡ true = subst (λ (x : ℕ). is_cube_byte x ≡ true) same first in
     cc)
 
-row_words_back : (width : ℕ) (cube : List ℕ) → is_cube width cube ≡ true → cover_line_in width ((row_line cube).first ∷ (row_line cube).rest) ≡ Some (record { cube = cube; on = true })
-unfolding cover_line_in bit_in
-row_words_back width [] is =
+digit_back : (on : Bool) → bit_in (digit_text on ∷ []) ≡ Some on
+unfolding bit_in
+digit_back true = refl
+digit_back false = refl
+
+row_words_back : (width : ℕ) (on : Bool) (cube : List ℕ) → is_cube width cube ≡ true →
+    cover_line_in width ((row_line on cube).first ∷ (row_line on cube).rest) ≡ Some (record { cube = cube; on = on })
+unfolding cover_line_in
+row_words_back width on [] is =
     let parts = and_parts (0 == width) true is in
     let none : 0 ≡ width = eqb-true 0 width parts.0 in
-    cond-true (width == 0) _ _ (eq-eqb width 0 (sym none))
-row_words_back width (b ∷ bs) is = cond-true (is_cube width (b ∷ bs)) _ _ is
+    cond-true (width == 0) _ _ (eq-eqb width 0 (sym none)) ∙ ap (row_with []) (digit_back on)
+row_words_back width on (b ∷ bs) is = cond-true (is_cube width (b ∷ bs)) _ _ is ∙ ap (row_with (b ∷ bs)) (digit_back on)
 
-row_back : (n : ℕ) (t : Table) (done : List (List ℕ)) (cube : List ℕ) → is_cube t.cover.width cube ≡ true →
-    length done < most_cubes → row_of n (with_cubes t done) ((row_line cube).first ∷ (row_line cube).rest) ≡
-    Ok (with_cubes t (done ++ cube ∷ []))
+agrees_itself : (on : Bool) → agrees on on ≡ true
+agrees_itself true = refl
+agrees_itself false = refl
+
+row_added : (n : ℕ) (on : Bool) (t : Table) (done : List (List ℕ)) (cube : List ℕ) → length done < most_cubes →
+    with_row n (with_cubes on t done) (Some (record { cube = cube; on = on })) ≡ Ok (with_cubes on t (done ++ cube ∷ []))
+row_added n on t [] cube room = refl
+row_added n on t (d ∷ ds) cube room =
+    cond-false (nat_le most_cubes (length (d ∷ ds))) _ _ (lt-leb most_cubes (length (d ∷ ds)) room)
+    ∙ cond-true (agrees on on) _ _ (agrees_itself on)
+
+row_back : (n : ℕ) (on : Bool) (t : Table) (done : List (List ℕ)) (cube : List ℕ) →
+    is_cube t.cover.width cube ≡ true → length done < most_cubes →
+    row_of n (with_cubes on t done) ((row_line on cube).first ∷ (row_line on cube).rest) ≡
+    Ok (with_cubes on t (done ++ cube ∷ []))
 unfolding row_of
-row_back n t done cube is room =
-    ap (with_row n (with_cubes t done)) (row_words_back t.cover.width cube is)
-    ∙ cond-false (nat_le most_cubes (length done)) _ _ (lt-leb most_cubes (length done) room)
-    ∙ cond-true (is_nothing done || true) _ _ (or_right (is_nothing done) true refl)
+row_back n on t done cube is room =
+    ap (with_row n (with_cubes on t done)) (row_words_back t.cover.width on cube is) ∙ row_added n on t done cube room
 
-row_dot : (width : ℕ) (cube : List ℕ) → is_cube width cube ≡ true → begins_dot (row_line cube).first ≡ false
-row_dot width [] is = refl
-row_dot width (b ∷ bs) is = cube_no_dot width b bs is
+digit_dot : (on : Bool) → begins_dot (digit_text on ∷ []) ≡ false
+digit_dot true = refl
+digit_dot false = refl
+
+row_dot : (width : ℕ) (on : Bool) (cube : List ℕ) → is_cube width cube ≡ true → begins_dot (row_line on cube).first ≡ false
+row_dot width on [] is = digit_dot on
+row_dot width on (b ∷ bs) is = cube_no_dot width b bs is
 
 abbrev open_table : Said → Table → Said
 open_table s t = record s { current = Some t }
 
-row_said : (n : ℕ) (s : Said) (t : Table) (done : List (List ℕ)) (cube : List ℕ) → s.is_ended ≡ false → is_cube t.cover.width cube ≡ true → length done < most_cubes →
-    Says n (row_line cube ∷ []) (open_table s (with_cubes t done)) (λ u. u ≡ open_table s (with_cubes t (done ++ cube ∷ [])))
-row_said n s t done cube going is room =
-    says_one n (row_line cube) (open_table s (with_cubes t done)) (open_table s (with_cubes t (done ++ cube ∷ []))) (λ u. u ≡ open_table s (with_cubes t (done ++ cube ∷ [])))
+row_said : (n : ℕ) (s : Said) (on : Bool) (t : Table) (done : List (List ℕ)) (cube : List ℕ) → s.is_ended ≡ false →
+    is_cube t.cover.width cube ≡ true → length done < most_cubes →
+    Says n (row_line on cube ∷ []) (open_table s (with_cubes on t done))
+    (λ u. u ≡ open_table s (with_cubes on t (done ++ cube ∷ [])))
+row_said n s on t done cube going is room =
+    says_one n (row_line on cube) (open_table s (with_cubes on t done)) (open_table s (with_cubes on t (done ++ cube ∷ [])))
+    (λ u. u ≡ open_table s (with_cubes on t (done ++ cube ∷ [])))
     (cond-false s.is_ended _ _ going
-    ∙ cond-false (begins_dot (row_line cube).first) _ _ (row_dot t.cover.width cube is)
-    ∙ ap (λ (r : Result Table NetError). r >>= λ u. Ok (open_table s u)) (row_back n t done cube is room))
+    ∙ cond-false (begins_dot (row_line on cube).first) _ _ (row_dot t.cover.width on cube is)
+    ∙ ap (λ (r : Result Table NetError). r >>= λ u. Ok (open_table s u)) (row_back n on t done cube is room))
     refl
 
-rows_said : (n : ℕ) (s : Said) (t : Table) (done cubes : List (List ℕ)) → s.is_ended ≡ false → All (λ cube. is_cube t.cover.width cube ≡ true) cubes → length done + length cubes ≤ most_cubes →
-    Says n (map row_line cubes) (open_table s (with_cubes t done)) (λ u. u ≡ open_table s (with_cubes t (done ++ cubes)))
-rows_said n s t done [] going all room =
-    says_none n (open_table s (with_cubes t done)) (λ u. u ≡ open_table s (with_cubes t (done ++ []))) (ap (λ (cs : List (List ℕ)). open_table s (with_cubes t cs)) (sym (append-nil done)))
-rows_said n s t done (cube ∷ cubes) going all room =
-    subst (λ (cs : List (List ℕ)). Says n (row_line cube ∷ map row_line cubes) (open_table s (with_cubes t done)) (λ u. u ≡ open_table s (with_cubes t cs))) (append_assoc done (cube ∷ []) cubes)
-    (says_then n (row_line cube ∷ []) (map row_line cubes) (open_table s (with_cubes t done)) (λ u. u ≡
-    open_table s (with_cubes t (done ++ cube ∷ []))) (λ u. u ≡
-    open_table s (with_cubes t ((done ++ cube ∷ []) ++ cubes)))
-    (row_said n s t done cube going (All-head (λ (c : List ℕ). is_cube t.cover.width c ≡ true) cube cubes all) (omega (arith, room)))
-    (λ m u same. subst (λ (v : Said). Says m (map row_line cubes) v (λ w. w ≡ open_table s (with_cubes t ((done ++ cube ∷ []) ++ cubes)))) (sym same)
-    (rows_said m s t (done ++ cube ∷ []) cubes going (All-tail (λ (c : List ℕ). is_cube t.cover.width c ≡ true) cube cubes all) (omega (arith, room, length-append done (cube ∷ []))))))
+rows_said : (n : ℕ) (s : Said) (on : Bool) (t : Table) (done cubes : List (List ℕ)) → s.is_ended ≡ false →
+    All (λ cube. is_cube t.cover.width cube ≡ true) cubes → length done + length cubes ≤ most_cubes →
+    Says n (map (row_line on) cubes) (open_table s (with_cubes on t done))
+    (λ u. u ≡ open_table s (with_cubes on t (done ++ cubes)))
+rows_said n s on t done [] going all room =
+    says_none n (open_table s (with_cubes on t done)) (λ u. u ≡ open_table s (with_cubes on t (done ++ [])))
+    (ap (λ (cs : List (List ℕ)). open_table s (with_cubes on t cs)) (sym (append-nil done)))
+rows_said n s on t done (cube ∷ cubes) going all room =
+    subst (λ (cs : List (List ℕ)). Says n (row_line on cube ∷ map (row_line on) cubes) (open_table s (with_cubes on t done)) (λ u. u ≡
+    open_table s (with_cubes on t cs))) (append_assoc done (cube ∷ []) cubes)
+    (says_then n (row_line on cube ∷ []) (map (row_line on) cubes) (open_table s (with_cubes on t done)) (λ u. u ≡
+    open_table s (with_cubes on t (done ++ cube ∷ []))) (λ u. u ≡
+    open_table s (with_cubes on t ((done ++ cube ∷ []) ++ cubes)))
+    (row_said n s on t done cube going (All-head (λ (c : List ℕ). is_cube t.cover.width c ≡ true) cube cubes all) (omega (arith, room)))
+    (λ m u same. subst (λ (v : Said). Says m (map (row_line on) cubes) v (λ w. w ≡ open_table s (with_cubes on t ((done ++ cube ∷ []) ++ cubes)))) (sym same)
+    (rows_said m s on t (done ++ cube ∷ []) cubes going (All-tail (λ (c : List ℕ). is_cube t.cover.width c ≡ true) cube cubes all) (omega (arith, room, length-append done (cube ∷ []))))))
 
 abbrev pub add_tables : List Table → Document → Document
 add_tables ts d = record d { tables = d.tables ++ ts }
 
-names_said : (n : ℕ) (t : Table) (s : Said) (d : Document) → IsTable t → Has d s →
+names_said : (n : ℕ) (on : Bool) (t : Table) (s : Said) (d : Document) → IsTable t → Has d s →
     Says n (names_line t ∷ []) s (λ u. u ≡ open_table (with_table (closed s) t)
-    (with_cubes (empty_table t.inputs t.output) []))
+    (with_cubes on (empty_table t.inputs t.output) []))
 unfolding directed keyword_of
-names_said n t s d is has =
-    says_one n (names_line t) s (with_table (closed s) (empty_table t.inputs t.output)) (λ u. u ≡ open_table (with_table (closed s) t) (with_cubes (empty_table t.inputs t.output) []))
+names_said n on t s d is has =
+    says_one n (names_line t) s (with_table (closed s) (empty_table t.inputs t.output)) (λ u. u ≡ open_table (with_table (closed s) t) (with_cubes on (empty_table t.inputs t.output) []))
     (directs n s (codes ".names") (t.inputs ++ t.output ∷ []) has.going refl has.begun
     ∙ ap (λ (r : Result Table NetError). r >>= λ u. Ok (with_table (closed s) u))
     (table_back n t.inputs t.output is.inputs is.output is.narrow))
     refl
 
-table_whole : (t : Table) → IsSpelledTable t → with_cubes (empty_table t.inputs t.output) t.cover.cubes ≡ t
+on_known : (on : Bool) (cubes : List (List ℕ)) → (cubes ≡ [] → on ≡ true) → known_on on cubes ≡ on
+on_known on [] none = sym (none refl)
+on_known on (c ∷ cs) none = refl
+
+table_whole : (t : Table) → IsSpelledTable t → with_cubes t.cover.on (empty_table t.inputs t.output) t.cover.cubes ≡ t
 table_whole t is =
-    ap (λ (w : ℕ). let u : Table = record { inputs = t.inputs; output = t.output; cover = record { width = w; cubes = t.cover.cubes; on = true; parity = false } } in u) (sym is.table.width)
-    ∙ ap (λ (on : Bool). let u : Table = record { inputs = t.inputs; output = t.output; cover = record { width = t.cover.width; cubes = t.cover.cubes; on = on; parity = false } } in u) (sym is.on)
+    ap (λ (w : ℕ). let u : Table = record {
+      inputs = t.inputs;
+      output = t.output;
+      cover = record { width = w; cubes = t.cover.cubes; on = known_on t.cover.on t.cover.cubes; parity = false };
+    } in
+    u) (sym is.table.width)
+    ∙ ap (λ (on : Bool). let u : Table = record {
+      inputs = t.inputs;
+      output = t.output;
+      cover = record { width = t.cover.width; cubes = t.cover.cubes; on = on; parity = false };
+    } in
+    u) (on_known t.cover.on t.cover.cubes is.on)
     ∙ ap (λ (p : Bool). let u : Table = record {
       inputs = t.inputs;
       output = t.output;
@@ -406,11 +455,12 @@ opened_has d s t has = record {
 table_said : (n : ℕ) (t : Table) (d : Document) (s : Said) → IsSpelledTable t → Has d s → Says n (table_lines t) s (Has (add_tables (t ∷ []) d))
 table_said n t d s is has =
     let empty = empty_table t.inputs t.output in
+    let on = t.cover.on in
     let cubes = subst (λ (w : ℕ). All (λ cube. is_cube w cube ≡ true) t.cover.cubes) is.table.width is.table.cover.cubes in
-    says_then n (names_line t ∷ []) (map row_line t.cover.cubes) s (λ u. u ≡ open_table (with_table (closed s) t) (with_cubes empty [])) (Has (add_tables (t ∷ []) d))
-    (names_said n t s d is.table has)
-    (λ m u same. subst (λ (v : Said). Says m (map row_line t.cover.cubes) v (Has (add_tables (t ∷ []) d))) (sym same)
-    (let rows = rows_said m (with_table (closed s) t) empty [] t.cover.cubes has.going cubes (omega (arith, is.table.few)) in
+    says_then n (names_line t ∷ []) (map (row_line on) t.cover.cubes) s (λ u. u ≡ open_table (with_table (closed s) t) (with_cubes on empty [])) (Has (add_tables (t ∷ []) d))
+    (names_said n on t s d is.table has)
+    (λ m u same. subst (λ (v : Said). Says m (map (row_line on) t.cover.cubes) v (Has (add_tables (t ∷ []) d))) (sym same)
+    (let rows = rows_said m (with_table (closed s) t) on empty [] t.cover.cubes has.going cubes (omega (arith, is.table.few)) in
     record {
       next = rows.next;
       end = rows.end;

@@ -20,7 +20,7 @@ use Rattle.blif_text.specs.Statements.{Said, Control, nothing, steps, said_of, l
 use Rattle.blif_text.specs.SaidLaws.{control_name}
 use Rattle.blif_text.specs.StepLaws.{IsComplete}
 use Rattle.blif_text.specs.ListingLaws.{said_whole, text_listed}
-use Rattle.blif_core.specs.Spelling.{word_text, words_text, rest_text, list_text, clocks_text, trigger_text, control_text, init_text, latch_text, row_text, table_text, model_text, spelled}
+use Rattle.blif_core.specs.Spelling.{word_text, words_text, rest_text, list_text, clocks_text, trigger_text, control_text, init_text, latch_text, digit_text, row_text, table_text, model_text, spelled}
 use Rattle.net_document.specs.Format.{IsReadBack}
 use Rattle.blif_core.specs.Blif.{blif_format}
 use Rattle.blif_laws.specs.Spelled.{IsSpelledTable, IsBlifSpelling}
@@ -128,28 +128,29 @@ latches_spelled [] = refl
 latches_spelled (l ∷ ls) =
     ap (λ (xs : List ℕ). xs ++ flat_map latch_text ls) (latch_spelled l) ∙ ap (λ (xs : List ℕ). line_text (latch_line l) ++ xs) (latches_spelled ls)
 
-row_spelled : (cube : List ℕ) → row_text true cube ≡ line_text (row_line cube)
-row_spelled [] = refl
-row_spelled (b ∷ bs) = append_assoc (b ∷ bs) (32 ∷ []) (49 ∷ 10 ∷ []) ∙ sym (append_assoc (b ∷ bs) (32 ∷ 49 ∷ []) (10 ∷ []))
+row_spelled : (on : Bool) (cube : List ℕ) → row_text on cube ≡ line_text (row_line on cube)
+row_spelled on [] = refl
+row_spelled on (b ∷ bs) =
+    append_assoc (b ∷ bs) (32 ∷ []) (digit_text on ∷ 10 ∷ []) ∙ sym (append_assoc (b ∷ bs) (32 ∷ digit_text on ∷ []) (10 ∷ []))
 
-rows_spelled : (cubes : List (List ℕ)) → flat_map (row_text true) cubes ≡ lines_text (map row_line cubes)
-rows_spelled [] = refl
-rows_spelled (c ∷ cs) =
-    ap (λ (xs : List ℕ). xs ++ flat_map (row_text true) cs) (row_spelled c) ∙ ap (λ (xs : List ℕ). line_text (row_line c) ++ xs) (rows_spelled cs)
+rows_spelled : (on : Bool) (cubes : List (List ℕ)) → flat_map (row_text on) cubes ≡ lines_text (map (row_line on) cubes)
+rows_spelled on [] = refl
+rows_spelled on (c ∷ cs) =
+    ap (λ (xs : List ℕ). xs ++ flat_map (row_text on) cs) (row_spelled on c)
+    ∙ ap (λ (xs : List ℕ). line_text (row_line on c) ++ xs) (rows_spelled on cs)
 
-table_spelled : (t : Table) → t.cover.on ≡ true → table_text t ≡ lines_text (table_lines t)
-table_spelled t on =
-    ap (λ (b : Bool). (((codes ".names" ++ words_text t.inputs) ++ word_text t.output) ++ 10 ∷ []) ++ flat_map (row_text b) t.cover.cubes) on
-    ∙ ap (λ (xs : List ℕ). (xs ++ 10 ∷ []) ++ flat_map (row_text true) t.cover.cubes)
+table_spelled : (t : Table) → table_text t ≡ lines_text (table_lines t)
+table_spelled t =
+    ap (λ (xs : List ℕ). (xs ++ 10 ∷ []) ++ flat_map (row_text t.cover.on) t.cover.cubes)
     (append_assoc (codes ".names") (words_text t.inputs) (word_text t.output)
     ∙ ap (λ (xs : List ℕ). codes ".names" ++ xs) (sym (words_push t.inputs t.output)))
-    ∙ ap (λ (xs : List ℕ). line_text (names_line t) ++ xs) (rows_spelled t.cover.cubes)
+    ∙ ap (λ (xs : List ℕ). line_text (names_line t) ++ xs) (rows_spelled t.cover.on t.cover.cubes)
 
-tables_spelled : (ts : List Table) → All IsSpelledTable ts → flat_map table_text ts ≡ lines_text (flat_map table_lines ts)
-tables_spelled [] all = refl
-tables_spelled (t ∷ ts) all =
-    ap (λ (xs : List ℕ). xs ++ flat_map table_text ts) (table_spelled t (All-head IsSpelledTable t ts all).on)
-    ∙ ap (λ (xs : List ℕ). lines_text (table_lines t) ++ xs) (tables_spelled ts (All-tail IsSpelledTable t ts all))
+tables_spelled : (ts : List Table) → flat_map table_text ts ≡ lines_text (flat_map table_lines ts)
+tables_spelled [] = refl
+tables_spelled (t ∷ ts) =
+    ap (λ (xs : List ℕ). xs ++ flat_map table_text ts) (table_spelled t)
+    ∙ ap (λ (xs : List ℕ). lines_text (table_lines t) ++ xs) (tables_spelled ts)
     ∙ sym (flat_map-append line_text (table_lines t) (flat_map table_lines ts))
 
 joined_spelled : (text rest : List ℕ) (lines more : List WordLine) → text ≡ lines_text lines → rest ≡ lines_text more → text ++ rest ≡ lines_text (lines ++ more)
@@ -160,9 +161,9 @@ model_spelled : (model : Name) → model_text model ≡ lines_text (model_line m
 model_spelled model =
     ap (λ (xs : List ℕ). (codes ".model" ++ xs) ++ 10 ∷ []) (sym (append-nil (word_text model))) ∙ sym (append-nil (line_text (model_line model)))
 
-document_spelled : (d : Document) → IsBlifSpelling d → spelled d ≡ lines_text (document_lines d)
+document_spelled : (d : Document) → spelled d ≡ lines_text (document_lines d)
 unfolding spelled
-document_spelled d is =
+document_spelled d =
     joined_spelled _ (codes ".end\n") (table_part d) (end_line ∷ [])
     (joined_spelled _ (flat_map table_text d.tables) (latch_part d) (flat_map table_lines d.tables)
     (joined_spelled _ (flat_map latch_text d.latches) (clock_part d) (map latch_line d.latches)
@@ -173,7 +174,7 @@ document_spelled d is =
     (list_spelled (codes ".outputs") d.outputs))
     (clocks_spelled d.clocks))
     (latches_spelled d.latches))
-    (tables_spelled d.tables is.tables))
+    (tables_spelled d.tables))
     refl
 
 -- ---- each line is a line of words
@@ -261,31 +262,34 @@ cube_name b (c ∷ bs) e =
     let p = and_parts (is_cube_byte b) (list_all is_cube_byte (c ∷ bs)) e in
     and_from (is_name_byte b) (is_name (c ∷ bs)) (cube_byte_name b p.0).0 (cube_name c bs p.1)
 
-one_line : IsName (49 ∷ [])
+digit_name : (on : Bool) → IsName (digit_text on ∷ [])
 unfolding is_name
-one_line = record { spelled = refl; short = omega arith }
+digit_name true = record { spelled = refl; short = omega arith }
+digit_name false = record { spelled = refl; short = omega arith }
 
-row_is : (width : ℕ) (cube : List ℕ) → width ≤ most_table_inputs → is_cube width cube ≡ true → IsLine (row_line cube)
-row_is width [] low is = short_line (49 ∷ []) [] one_line (All-nil IsName) (omega arith)
-row_is width (b ∷ bs) low is =
+row_is : (width : ℕ) (on : Bool) (cube : List ℕ) → width ≤ most_table_inputs → is_cube width cube ≡ true → IsLine (row_line on cube)
+row_is width on [] low is = short_line (digit_text on ∷ []) [] (digit_name on) (All-nil IsName) (omega arith)
+row_is width on (b ∷ bs) low is =
     let p = and_parts (length (b ∷ bs) == width) (list_all is_cube_byte (b ∷ bs)) is in
     let size = eqb-true (length (b ∷ bs)) width p.0 in
-    short_line (b ∷ bs) ((49 ∷ []) ∷ []) (record { spelled = cube_name b bs p.1; short = omega (arith, size, low) }) (All-cons IsName (49 ∷ []) [] one_line (All-nil IsName)) (omega arith)
+    short_line (b ∷ bs) ((digit_text on ∷ []) ∷ []) (record { spelled = cube_name b bs p.1; short = omega (arith, size, low) })
+    (All-cons IsName (digit_text on ∷ []) [] (digit_name on) (All-nil IsName)) (omega arith)
 
-rows_are : (width : ℕ) (cubes : List (List ℕ)) → width ≤ most_table_inputs → All (λ cube. is_cube width cube ≡ true) cubes → All IsLine (map row_line cubes)
-rows_are width [] low all = All-nil IsLine
-rows_are width (c ∷ cs) low all =
-    All-cons IsLine (row_line c) (map row_line cs) (row_is width c low (All-head (λ (x : List ℕ). is_cube width x ≡ true) c cs all))
-    (rows_are width cs low (All-tail (λ (x : List ℕ). is_cube width x ≡ true) c cs all))
+rows_are : (width : ℕ) (on : Bool) (cubes : List (List ℕ)) → width ≤ most_table_inputs →
+    All (λ cube. is_cube width cube ≡ true) cubes → All IsLine (map (row_line on) cubes)
+rows_are width on [] low all = All-nil IsLine
+rows_are width on (c ∷ cs) low all =
+    All-cons IsLine (row_line on c) (map (row_line on) cs) (row_is width on c low (All-head (λ (x : List ℕ). is_cube width x ≡ true) c cs all))
+    (rows_are width on cs low (All-tail (λ (x : List ℕ). is_cube width x ≡ true) c cs all))
 
 table_are : (t : Table) → IsTable t → All IsLine (table_lines t)
 unfolding is_name
 table_are t is =
-    All-cons IsLine (names_line t) (map row_line t.cover.cubes)
+    All-cons IsLine (names_line t) (map (row_line t.cover.on) t.cover.cubes)
     (short_line (codes ".names") (t.inputs ++ t.output ∷ []) (keyword_name (codes ".names") refl (omega arith))
     (All-push IsName t.inputs t.output is.inputs is.output)
     (omega (arith, is.narrow, length-append t.inputs (t.output ∷ []))))
-    (rows_are t.cover.width t.cover.cubes (omega (arith, is.width, is.narrow)) is.cover.cubes)
+    (rows_are t.cover.width t.cover.on t.cover.cubes (omega (arith, is.width, is.narrow)) is.cover.cubes)
 
 tables_are : (ts : List Table) → All IsSpelledTable ts → All IsLine (flat_map table_lines ts)
 tables_are [] all = All-nil IsLine
@@ -358,7 +362,7 @@ said_back : (d : Document) → IsBlifSpelling d → (s : Said) × (said_of (spel
 unfolding said_of
 said_back d is =
     let r = document_said d is in
-    (r.0, ap (λ (bytes : List ℕ). steps nothing (logical_of 1 bytes)) (document_spelled d is) ∙ lines_said 1 nothing (document_lines d) (document_are d is) ∙ r.1, r.2)
+    (r.0, ap (λ (bytes : List ℕ). steps nothing (logical_of 1 bytes)) (document_spelled d) ∙ lines_said 1 nothing (document_lines d) (document_are d is) ∙ r.1, r.2)
 
 abbrev AreNone : List Name → List Name → Type 0
 AreNone ns [] = Unit {0}

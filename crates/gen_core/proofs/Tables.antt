@@ -109,7 +109,7 @@ table_is k ls o first second low letters output width narrow few cubes = record 
     narrow = omega (arith, width, narrow);
     few = omega (arith, few);
   };
-  on = refl;
+  on = λ e. refl;
   cubes = refl;
 }
 

@@ -4,4 +4,4 @@
 
 mod wishes;
 
-pub use wishes::{FormAsked, LevelsAsked, Wishes};
+pub use wishes::{CoversAsked, FormAsked, LevelsAsked, Wishes};

@@ -24,6 +24,15 @@ pub enum FormAsked {
     Binary,
 }
 
+/// The rows by which the tables of BLIF are written.
+#[derive(Clone, Copy, PartialEq, Eq)]
+pub enum CoversAsked {
+    /// Those with 1.
+    Rows,
+    /// Of each table those with 1 or those with 0, whichever are fewer.
+    Least,
+}
+
 /// What is wished of the netlist that is written.
 #[derive(Clone, Copy, PartialEq, Eq)]
 pub struct Wishes {
@@ -31,4 +40,5 @@ pub struct Wishes {
     pub only: bool,
     pub levels: LevelsAsked,
     pub form: FormAsked,
+    pub covers: CoversAsked,
 }

@@ -1,5 +1,5 @@
 -- What the words of `improve` wish of the netlist that it writes, and the words without these wishes.
-use Rattle.std.specs.Prelude.{ℕ, List, [], ◌∷◌, ◌++◌, Bool, true, false, Option, Some, None, codes, if◌then◌else◌}
+use Rattle.std.specs.Prelude.{ℕ, List, [], ◌∷◌, ◌++◌, Bool, true, false, not, Option, Some, None, codes, if◌then◌else◌}
 use Rattle.text_core.specs.Numbers.{number_up_to}
 use Rattle.command_line.specs.Options.{is_word}
 use Rattle.command_line.specs.CommandLine.{word_after, is_named}
@@ -9,6 +9,8 @@ use Rattle.format_words.specs.FormatsAsked.{named_format, wants_aiger, basis_wor
 use Rattle.wish_names.specs.declared.wishes.Wishes.{Wishes}
 use Rattle.wish_names.specs.declared.wishes.LevelsAsked.{LevelsAsked}
 use Rattle.wish_names.specs.declared.wishes.LevelsAsked.TheVariants.{Untold, Tell, Keep, Most}
+use Rattle.wish_names.specs.declared.wishes.CoversAsked.{CoversAsked}
+use Rattle.wish_names.specs.declared.wishes.CoversAsked.TheVariants.{Rows, Least}
 use Rattle.wish_names.specs.declared.wishes.FormAsked.{FormAsked}
 use Rattle.wish_names.specs.declared.wishes.FormAsked.TheVariants.{Given, Ascii, Binary}
 
@@ -28,6 +30,21 @@ levels_in None = Some Untold
 levels_in (Some word) = if is_word word (codes "tell") then Some Tell
     else (if is_word word (codes "keep") then Some Keep else most_in (number_up_to most_levels word))
 
+abbrev pub covers_named : List ℕ → Option CoversAsked
+covers_named word = if is_word word (codes "rows") then Some Rows
+    else (if is_word word (codes "least") then Some Least else None)
+
+-- `--covers rows` or `least`, where the netlist is in BLIF: other formats have no covers
+abbrev pub covers_in : Bool → Option (List ℕ) → Option CoversAsked
+covers_in blif None = Some Rows
+covers_in blif (Some word) = if blif then covers_named word else None
+
+-- the netlist is in BLIF, by whether it is in AIGER and by the format that is named
+abbrev pub is_blif : Bool → Option (List ℕ) → Bool
+is_blif true named = false
+is_blif false None = true
+is_blif false (Some word) = not (is_word word (codes "bench"))
+
 -- the form of an AIGER file, by the end of its name
 abbrev pub form_named : Option (List ℕ) → FormAsked
 form_named None = Given
@@ -46,17 +63,20 @@ is_asked form = true
 
 -- a wish is named
 abbrev pub names_wish : List (List ℕ) → FormAsked → Bool
-names_wish options form = if is_named (codes "--levels") options then true else is_asked form
+names_wish options form = if is_named (codes "--levels") options then true
+    else (if is_named (codes "--covers") options then true else is_asked form)
 
-abbrev pub wishes_from : Option LevelsAsked → FormAsked → Option Wishes
-wishes_from (Some levels) form = Some (record { levels = levels; form = form })
-wishes_from None form = None
+abbrev pub wishes_from : Option LevelsAsked → Option CoversAsked → FormAsked → Option Wishes
+wishes_from (Some levels) (Some covers) form = Some (record { levels = levels; form = form; covers = covers })
+wishes_from (Some levels) None form = None
+wishes_from None covers form = None
 
 -- the wishes of options; None: there are none, or a value is none
-abbrev pub wishes_in : List (List ℕ) → FormAsked → Option Wishes
-wishes_in options form =
+abbrev pub wishes_in : List (List ℕ) → Bool → FormAsked → Option Wishes
+wishes_in options blif form =
     if names_wish options form then
-    wishes_from (levels_in (word_after (codes "--levels") options)) form
+    wishes_from (levels_in (word_after (codes "--levels") options))
+    (covers_in blif (word_after (codes "--covers") options)) form
     else None
 
 -- ---- the words without wishes
@@ -68,7 +88,7 @@ without option (name ∷ []) = name ∷ []
 without option (name ∷ word ∷ words) = if is_word option name then words else name ∷ word ∷ without option words
 
 abbrev pub without_wishes : List (List ℕ) → List (List ℕ)
-without_wishes options = without (codes "--levels") options
+without_wishes options = without (codes "--covers") (without (codes "--levels") options)
 
 -- `improve` of AIGER is that of BLIF to `command_line`, over the gates of AIGER.
 abbrev pub plain_options : Bool → List (List ℕ) → List (List ℕ)
@@ -89,7 +109,8 @@ wished_by (Some wishes) aiger words = Some (record { wishes = wishes; aiger = ai
 
 abbrev pub wished_as : Bool → Option (List ℕ) → List ℕ → List (List ℕ) → Option Wished
 wished_as aiger output name options =
-    wished_by (wishes_in options (form_in aiger output)) aiger (name ∷ plain_options aiger options)
+    wished_by (wishes_in options (is_blif aiger (named_format options)) (form_in aiger output)) aiger
+    (name ∷ plain_options aiger options)
 
 abbrev pub wished_words : Line → List (List ℕ) → Option Wished
 wished_words line [] = None

@@ -7,7 +7,7 @@ ghost use Rattle.wish_words.specs.Read.{wished_value};
 ghost use Rattle.wish_words.specs.WishWords as spec;
 
 use crate::stripping::plain_words;
-use crate::values::{form_in, wishes_in};
+use crate::values::{form_in, is_blif, wishes_in};
 use file_words::FileLine;
 use format_words::{is_word, wants_aiger};
 use std::alloc::{AllocError, Global};
@@ -34,7 +34,8 @@ fn wished_as(
     ensures { IfOk result (λ found. option_map wished_value found ≡
         spec.wished_as aiger (option_map string_bytes output.now) name.now (map string_bytes options.now)) }
 {
-    let Some(wishes) = wishes_in(options, form_in(aiger, output)) else {
+    let blif = is_blif(aiger, options);
+    let Some(wishes) = wishes_in(options, blif, form_in(aiger, output)) else {
         return Ok(None);
     };
     let words = plain_words(alloc, name, aiger, options)?;

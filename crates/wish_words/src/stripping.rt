@@ -37,8 +37,10 @@ fn push_without(
 fn without_wishes(alloc: Global, options: &[String]) -> Result<Vec<String>, AllocError>
     ensures { IfOk result (λ words. spelled words ≡ spec.without_wishes (map string_bytes options.now)) }
 {
+    let mut bare = Vec::new(alloc);
+    push_without(alloc, &mut bare, b"--levels", options)?;
     let mut words = Vec::new(alloc);
-    push_without(alloc, &mut words, b"--levels", options)?;
+    push_without(alloc, &mut words, b"--covers", &bare)?;
     Ok(words)
 }
 

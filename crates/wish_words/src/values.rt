@@ -3,12 +3,13 @@ ghost use Rattle.std.specs.Prelude.{◌≡◌, map, codes, Some};
 ghost use Rattle.std.specs.Option.{option_map};
 ghost use Rattle.std.specs.String.{string_bytes};
 ghost use Rattle.command_line.specs.CommandLine.{word_after as word_after_of, is_named as is_named_of};
+ghost use Rattle.format_words.specs.FormatsAsked.{named_format};
 ghost use Rattle.wish_words.specs.WishWords as spec;
 
 use file_words::ends_with;
 use format_words::{is_word, word_after};
 use text_core::number_up_to;
-use wish_names::{FormAsked, LevelsAsked, Wishes};
+use wish_names::{CoversAsked, FormAsked, LevelsAsked, Wishes};
 
 /// The greatest number of levels that can be named.
 const MOST_LEVELS: u32 = 1_000_000;
@@ -43,6 +44,47 @@ fn levels_in(options: &[String]) -> Option<LevelsAsked>
     match word_after(b"--levels", options) {
         None => Some(LevelsAsked::Untold),
         Some(word) => levels_named(word),
+    }
+}
+
+/// The covers that a word asks for.
+fn covers_named(word: &[u8]) -> Option<CoversAsked>
+    ensures { result ≡ spec.covers_named word.now }
+{
+    if is_word(word, b"rows") {
+        return Some(CoversAsked::Rows);
+    }
+    if is_word(word, b"least") {
+        return Some(CoversAsked::Least);
+    }
+    None
+}
+
+/// The value of `--covers`, by whether the netlist is in BLIF.
+fn covers_in(blif: bool, options: &[String]) -> Option<CoversAsked>
+    ensures { result ≡ spec.covers_in blif (word_after_of (codes "--covers") (map string_bytes options.now)) }
+{
+    match word_after(b"--covers", options) {
+        None => Some(CoversAsked::Rows),
+        Some(word) => {
+            if !blif {
+                return None;
+            }
+            covers_named(word)
+        }
+    }
+}
+
+/// Whether the netlist is in BLIF: it isn't in AIGER, and no other format is named.
+pub(crate) fn is_blif(aiger: bool, options: &[String]) -> bool
+    ensures { result ≡ spec.is_blif aiger (named_format (map string_bytes options.now)) }
+{
+    if aiger {
+        return false;
+    }
+    match word_after(b"--format", options) {
+        None => true,
+        Some(word) => !is_word(word, b"bench"),
     }
 }
 
@@ -96,25 +138,36 @@ fn names_wish(options: &[String], form: FormAsked) -> bool
     if is_named(b"--levels", options) {
         return true;
     }
+    if is_named(b"--covers", options) {
+        return true;
+    }
     is_asked(form)
 }
 
 /// The wishes by the values of the options.
-fn wishes_from(levels: Option<LevelsAsked>, form: FormAsked) -> Option<Wishes>
-    ensures { result ≡ spec.wishes_from levels form }
+fn wishes_from(
+    levels: Option<LevelsAsked>,
+    covers: Option<CoversAsked>,
+    form: FormAsked,
+) -> Option<Wishes>
+    ensures { result ≡ spec.wishes_from levels covers form }
 {
-    match levels {
-        Some(levels) => Some(Wishes { levels, form }),
-        None => None,
+    match (levels, covers) {
+        (Some(levels), Some(covers)) => Some(Wishes {
+            levels,
+            form,
+            covers,
+        }),
+        _ => None,
     }
 }
 
 /// The wishes of options; None if there are none, or a value is none.
-pub(crate) fn wishes_in(options: &[String], form: FormAsked) -> Option<Wishes>
-    ensures { result ≡ spec.wishes_in (map string_bytes options.now) form }
+pub(crate) fn wishes_in(options: &[String], blif: bool, form: FormAsked) -> Option<Wishes>
+    ensures { result ≡ spec.wishes_in (map string_bytes options.now) blif form }
 {
     if !names_wish(options, form) {
         return None;
     }
-    wishes_from(levels_in(options), form)
+    wishes_from(levels_in(options), covers_in(blif, options), form)
 }

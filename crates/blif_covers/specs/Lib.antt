@@ -1,0 +1,9 @@
+pub use Rattle.net_theory.specs.Document
+pub use Rattle.net_theory.specs.Behaviour
+pub use Rattle.net_theory.specs.WellFormed
+pub use Rattle.net_theory.specs.Circuit
+pub use Rattle.net_document.specs.Format
+pub use Rattle.blif_core.specs.Written
+pub use Rattle.blif_core.specs.Spelling
+pub use Rattle.blif_core.specs.Blif
+pub mod Least
