@@ -25,7 +25,7 @@ use Rattle.frame_core.specs.Reported.{Reply, Refusal}
 use Rattle.frame_core.specs.Task.{HasReply, Refuses}
 use Rattle.cmd_improve.specs.ImproveReport.{improve_reply, improve_refusal}
 use Rattle.cmd_improve.specs.NamedReport.{Empty, Faulty, empty_refusal}
-use Rattle.cmd_wishes.specs.WishReport.{wants_binary, plain_text, IsInForm, wished_task}
+use Rattle.cmd_wishes.specs.WishReport.{wants_binary, plain_text, wished_format, IsInForm, wished_task}
 
 -- ---- the text of an improved netlist
 
@@ -42,11 +42,12 @@ plain : (settings : ImproveSettings) (w : Wishes) (bytes text report : List ℕ)
 plain settings w bytes text report is = ap is_binary is.spelled ∙ circuit_plain is.circuit
 
 wished_as : (format : NetFormat) (settings : ImproveSettings) (w : Wishes) (bytes text answer report : List ℕ)
-    (binary : Bool) → IsWished (format_of format) settings w bytes text report →
+    (binary : Bool) → IsWished (wished_format format w) settings w bytes text report →
     binary ≡ wants_binary format w.form bytes → ascii_in answer ≡ ascii_in text → (binary ≡ false → answer ≡ text) →
-    IsWished (format_of format) settings w bytes (plain_text format answer) report × IsInForm format w.form bytes answer
+    IsWished (wished_format format w) settings w bytes (plain_text format answer) report ×
+    IsInForm format w.form bytes answer
 wished_as Blif settings w bytes text answer report binary is wants stands same =
-    (subst (λ (t : List ℕ). IsWished (format_of Blif) settings w bytes t report) (sym (same wants)) is, tt)
+    (subst (λ (t : List ℕ). IsWished (wished_format Blif w) settings w bytes t report) (sym (same wants)) is, tt)
 wished_as Bench settings w bytes text answer report binary is wants stands same =
     (subst (λ (t : List ℕ). IsWished (format_of Bench) settings w bytes t report) (sym (same wants)) is, tt)
 wished_as Aiger settings w bytes text answer report binary is wants stands same =
@@ -60,7 +61,7 @@ wished_as Aiger settings w bytes text answer report binary is wants stands same 
 
 pub replied : (format : NetFormat) (settings : ImproveSettings) (w : Wishes)
     (bytes text report answer answer_report : List ℕ) (binary : Bool) (reply : Reply) → length bytes ≤ most_of_netlist →
-    is_bare bytes ≡ false → IsWished (format_of format) settings w bytes text report →
+    is_bare bytes ≡ false → IsWished (wished_format format w) settings w bytes text report →
     binary ≡ wants_binary format w.form bytes → ascii_in answer ≡ ascii_in text → (binary ≡ false → answer ≡ text) →
     answer_report ≡ report → reply ≡ improve_reply (record { text = answer; report = answer_report }) →
     HasReply (wished_task format settings w) bytes reply
@@ -71,7 +72,8 @@ replied format settings w bytes text report answer answer_report binary reply wi
       has = record {
         within = within;
         said = said;
-        wished = subst (λ (r : List ℕ). IsWished (format_of format) settings w bytes (plain_text format answer) r) (sym told) both.0;
+        wished = subst (λ (r : List ℕ). IsWished (wished_format format w) settings w bytes (plain_text format answer) r)
+            (sym told) both.0;
         form = both.1;
       };
       is = shown;

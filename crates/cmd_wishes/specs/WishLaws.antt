@@ -5,11 +5,15 @@ use Rattle.net_theory.specs.Limits.{most_of_netlist}
 use Rattle.net_document.specs.Format.{IsNetlist}
 use Rattle.net_document.specs.FormatLaws.{fault_one, fault_never}
 use Rattle.format_names.specs.declared.formats.NetFormat.{NetFormat}
+use Rattle.format_names.specs.declared.formats.NetFormat.TheVariants.{Blif, Bench, Aiger}
 use Rattle.net_formats.specs.Formats.{format_of}
 use Rattle.net_formats.specs.FormatLaws.{lists_well}
 use Rattle.settings.specs.declared.improve.ImproveSettings.{ImproveSettings}
 use Rattle.wish_names.specs.declared.wishes.Wishes.{Wishes}
+use Rattle.wish_names.specs.declared.wishes.CoversAsked.{CoversAsked}
+use Rattle.wish_names.specs.declared.wishes.CoversAsked.TheVariants.{Rows, Least}
 use Rattle.equiv_run.specs.Two.{is_bare}
+use Rattle.improve_wishes.specs.Covers.{blif_in}
 use Rattle.improve_wishes.specs.Wished.{IsWished}
 use Rattle.frame_core.specs.Reported.{memory_refusal}
 use Rattle.frame_core.specs.Task.{IsRefusalStatus, IsTask}
@@ -17,7 +21,7 @@ use Rattle.frame_core.specs.TaskLaws.{at_once_task}
 use Rattle.cmd_lines.specs.NetLineLaws.{status_kind}
 use Rattle.cmd_improve.specs.ImproveReport.{Improvement, improve_reply, improve_refusal}
 use Rattle.cmd_improve.specs.NamedReport.{NamedFault, Empty, Faulty, empty_refusal, named_refusal}
-use Rattle.cmd_wishes.specs.WishReport.{plain_text, IsWishAnswer, HasWishFault, wished_task}
+use Rattle.cmd_wishes.specs.WishReport.{plain_text, wished_format, IsWishAnswer, HasWishFault, wished_task}
 
 statuses : (format : NetFormat) (bytes : List ℕ) (fault : NamedFault) → HasWishFault format bytes fault →
     IsRefusalStatus (named_refusal fault).status ⊎ (named_refusal fault ≡ memory_refusal)
@@ -28,9 +32,17 @@ statuses format bytes (Faulty e) meets = inl (status_kind e meets.fault.1)
 both : {A : Type 0} (b : Bool) → b ≡ true → b ≡ false → A
 both b is isnt = let e : true ≡ false = sym is ∙ isnt in cc
 
+-- BLIF is read in the same way, whichever covers are written
+blif_netlist : (covers : CoversAsked) (settings : ImproveSettings) (w : Wishes) (bytes text report : List ℕ) →
+    IsWished (blif_in covers) settings w bytes text report → IsNetlist (format_of Blif) bytes
+blif_netlist Rows settings w bytes text report is = record { listed = is.read; said = is.said; well = is.well }
+blif_netlist Least settings w bytes text report is = record { listed = is.read; said = is.said; well = is.well }
+
 netlist_of : (format : NetFormat) (settings : ImproveSettings) (w : Wishes) (bytes text report : List ℕ) →
-    IsWished (format_of format) settings w bytes text report → IsNetlist (format_of format) bytes
-netlist_of format settings w bytes text report is = record { listed = is.read; said = is.said; well = is.well }
+    IsWished (wished_format format w) settings w bytes text report → IsNetlist (format_of format) bytes
+netlist_of Blif settings w bytes text report is = blif_netlist w.covers settings w bytes text report is
+netlist_of Bench settings w bytes text report is = record { listed = is.read; said = is.said; well = is.well }
+netlist_of Aiger settings w bytes text report is = record { listed = is.read; said = is.said; well = is.well }
 
 apart : (format : NetFormat) (settings : ImproveSettings) (w : Wishes) (bytes : List ℕ) (i : Improvement)
     (fault : NamedFault) → IsWishAnswer format settings w bytes i → HasWishFault format bytes fault → ⊥

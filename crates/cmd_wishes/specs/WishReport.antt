@@ -2,7 +2,7 @@
 use Rattle.std.specs.Prelude.{◌≡◌, ℕ, ◌≤◌, List, length, Bool, true, false}
 use Rattle.net_theory.specs.Limits.{most_of_netlist}
 use Rattle.net_core.specs.declared.error.NetError.{NetError}
-use Rattle.net_document.specs.Format.{HasNetFault}
+use Rattle.net_document.specs.Format.{Format, HasNetFault}
 use Rattle.aiger_binary.specs.Ascii.{is_binary, ascii_in}
 use Rattle.format_names.specs.declared.formats.NetFormat.{NetFormat}
 use Rattle.format_names.specs.declared.formats.NetFormat.TheVariants.{Blif, Bench, Aiger}
@@ -12,6 +12,7 @@ use Rattle.wish_names.specs.declared.wishes.Wishes.{Wishes}
 use Rattle.wish_names.specs.declared.wishes.FormAsked.{FormAsked}
 use Rattle.wish_names.specs.declared.wishes.FormAsked.TheVariants as forms
 use Rattle.equiv_run.specs.Two.{is_bare}
+use Rattle.improve_wishes.specs.Covers.{blif_in}
 use Rattle.improve_wishes.specs.Wished.{IsWished}
 use Rattle.frame_core.specs.Task.{Task, at_once}
 use Rattle.cmd_improve.specs.ImproveReport.{Improvement, improve_reply}
@@ -43,12 +44,18 @@ IsInForm format form bytes text = Unit {0}
 
 -- ---- answers
 
+-- the format that is written: BLIF has the covers that are wished for
+abbrev pub wished_format : NetFormat → Wishes → Format
+wished_format Blif w = blif_in w.covers
+wished_format Bench w = format_of Bench
+wished_format Aiger w = format_of Aiger
+
 -- The text isn't empty, and is a netlist. The answer is that netlist improved by the wishes, in the same format.
 pub record IsWishAnswer (format : NetFormat) (settings : ImproveSettings) (w : Wishes) (bytes : List ℕ)
     (i : Improvement) : Type 0 where
   pub within : length bytes ≤ most_of_netlist
   pub said : is_bare bytes ≡ false
-  pub wished : IsWished (format_of format) settings w bytes (plain_text format i.text) i.report
+  pub wished : IsWished (wished_format format w) settings w bytes (plain_text format i.text) i.report
   pub form : IsInForm format w.form bytes i.text
 
 -- ---- faults

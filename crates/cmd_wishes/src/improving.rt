@@ -8,7 +8,7 @@ ghost use Rattle.equiv_run.specs.Two.{is_bare as is_bare_of};
 ghost use Rattle.improve_windows.specs.Improving.{FitsFormat};
 ghost use Rattle.improve_wishes.specs.Wished.{IsWished};
 ghost use Rattle.frame_core.specs.Views.{Judges};
-ghost use Rattle.cmd_wishes.specs.WishReport.{wished_task};
+ghost use Rattle.cmd_wishes.specs.WishReport.{wished_format, wished_task};
 
 use crate::forms::{formed, wants_binary};
 use cmd_improve::{empty, refusal_of, reply_of};
@@ -36,7 +36,7 @@ fn wished_text<S: Solver, T: Tell>(
     requires length { length bytes.now ≤ most_of_netlist }
     requires range { IsInRange settings }
     requires basis { FitsFormat (format_of format) settings }
-    ensures wished { IfOk result (λ i. IsWished (format_of format) settings wishes bytes.now i.text.items
+    ensures wished { IfOk result (λ i. IsWished (wished_format format wishes) settings wishes bytes.now i.text.items
         i.report.items) }
     ensures refused { IfErr result (IsRefusedText (format_of format) bytes.now) }
 {

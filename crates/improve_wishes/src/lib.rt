@@ -1,5 +1,5 @@
 //! Improvement of texts by wishes: over the operators of a basis and no others, with no more levels, or with a line of
-//! levels in the report.
+//! levels in the report; and BLIF with the covers that are wished for.
 //!
 //! `bases` makes what is improved: the circuit that was read, or an equivalent one over the basis (`based`).
 //! `reaching` improves it, by exact windows (`improve_windows`), or by moves within a limit of levels
@@ -7,7 +7,8 @@
 //!
 //! What is proved, for BLIF, BENCH and AIGER: `IsWished` (`specs/Wished.antt`). The text is a well-formed netlist with
 //! the same outputs and next states under every assignment, no more gates than what was improved, and what is wished
-//! of operators and levels. Where the basis can't express a gate, it is named (`IsCannotExpress`).
+//! of operators and levels. BLIF has the covers that are wished for (`blif_in` of `specs/Covers.antt`). Where the basis
+//! can't express a gate, it is named (`IsCannotExpress`).
 //!
 //! ```text
 //! let improved = wished_blif::<S, T>(alloc, bytes, settings, wishes, tell)?;
@@ -22,4 +23,4 @@ mod writing;
 
 pub use improve_windows::{ImproveSettings, ImprovedText, NetError};
 pub use texts::{WishedText, wished_aiger, wished_bench, wished_blif};
-pub use wish_names::{FormAsked, LevelsAsked, Wishes};
+pub use wish_names::{CoversAsked, FormAsked, LevelsAsked, Wishes};

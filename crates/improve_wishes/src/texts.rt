@@ -6,6 +6,7 @@ ghost use Rattle.bench_core.specs.Bench.{bench_format};
 ghost use Rattle.aiger_forms.specs.Forms.{aiger_forms};
 ghost use Rattle.settings.specs.Improve.{IsInRange};
 ghost use Rattle.improve_windows.specs.Improving.{FitsFormat};
+ghost use Rattle.improve_wishes.specs.Covers.{blif_in};
 ghost use Rattle.improve_wishes.specs.Texts.{IsWishedText};
 
 use crate::bases::base_of;
@@ -15,6 +16,7 @@ use based::Based;
 use bench_core::read_bench;
 use bench_laws::bench_is_a_format;
 use blif_core::read_blif;
+use blif_covers::least_is_a_format;
 use blif_laws::blif_is_a_format;
 use improve_windows::ImprovedText;
 use net_core::NetError;
@@ -35,7 +37,8 @@ pub enum WishedText {
     TooMany,
 }
 
-/// Improves a BLIF netlist by the settings and the wishes. It is refused as `improve_blif` refuses it.
+/// Improves a BLIF netlist by the settings and the wishes, and writes it with the covers that are wished for. It is
+/// refused as `improve_blif` refuses it.
 #[tactic(auto, using(crate::specs::TextLaws::texts))]
 pub fn wished_blif<S: Solver, T: Tell>(
     alloc: Global,
@@ -46,16 +49,17 @@ pub fn wished_blif<S: Solver, T: Tell>(
 ) -> Result<WishedText, NetError>
     requires size { length bytes.now < 2 ^ 31 }
     requires range { IsInRange settings }
-    ensures wished { IfOk result (IsWishedText blif_format settings wishes bytes.now) }
+    ensures wished { IfOk result (IsWishedText (blif_in wishes.covers) settings wishes bytes.now) }
     ensures refused { IfErr result (IsRefusedText blif_format bytes.now) }
 {
     // for the prover: the laws of BLIF
     blif_is_a_format();
+    least_is_a_format();
     let circuit = read_blif(alloc, bytes)?;
     let found = base_of(alloc, circuit, &settings, wishes.only)?;
     match found {
         Based::Base(base) => {
-            let improved = blif_of::<S, T>(alloc, base, settings, wishes.levels, tell)?;
+            let improved = blif_of::<S, T>(alloc, base, settings, wishes, tell)?;
             Ok(WishedText::Text(improved))
         }
         Based::Cannot(name) => Ok(WishedText::Cannot(name)),

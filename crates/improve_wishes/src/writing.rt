@@ -13,6 +13,7 @@ ghost use Rattle.aiger_forms.specs.Forms.{aiger_forms};
 ghost use Rattle.aiger_laws.specs.Writable.{CanWriteAiger};
 ghost use Rattle.settings.specs.Improve.{IsInRange};
 ghost use Rattle.improve_windows.specs.Improving.{FitsFormat};
+ghost use Rattle.improve_wishes.specs.Covers.{covered, blif_in};
 ghost use Rattle.improve_wishes.specs.Wished.{IsTextBy};
 ghost use Rattle.improve_wishes.specs.WishedLaws.{CanIfRoom};
 
@@ -22,6 +23,7 @@ use aiger_forms::forms_are_a_format;
 use bench_core::write_gates;
 use bench_laws::{bench_is_a_format, circuits_cost_the_same};
 use blif_core::write_document;
+use blif_covers::{least_circuits_cost_the_same, write_least};
 use improve_aiger::{CostedText, costed_text};
 use improve_windows::{Improved, ImprovedText, Written};
 use net_core::Circuit;
@@ -31,7 +33,7 @@ use progress::Tell;
 use sat_solve::Solver;
 use settings::ImproveSettings;
 use std::alloc::{AllocError, Global};
-use wish_names::LevelsAsked;
+use wish_names::{CoversAsked, LevelsAsked, Wishes};
 
 /// The levels of a circuit.
 fn levels_in(alloc: Global, circuit: &Circuit) -> Result<u32, AllocError>
@@ -40,13 +42,20 @@ fn levels_in(alloc: Global, circuit: &Circuit) -> Result<u32, AllocError>
     levels(alloc, &circuit.net)
 }
 
-/// The BLIF text of a document.
-fn blif_text_of(alloc: Global, document: &Document) -> Result<Vec<u8>, AllocError>
-    requires { All HasInit document.now.latches }
-    ensures { IfOk result (λ text. text.items ≡ spelled document.now) }
+/// The BLIF text of a document with the covers that are wished for.
+fn blif_text_of(
+    alloc: Global,
+    covers: CoversAsked,
+    document: Document,
+) -> Result<Vec<u8>, AllocError>
+    requires { All HasInit document.latches }
+    ensures { IfOk result (λ text. text.items ≡ spelled (covered covers document)) }
 {
     let mut text = Vec::new(alloc);
-    write_document(&mut text, document)?;
+    match covers {
+        CoversAsked::Rows => write_document(&mut text, &document)?,
+        CoversAsked::Least => write_least(&mut text, document)?,
+    }
     Ok(text)
 }
 
@@ -70,16 +79,20 @@ pub(crate) fn blif_of<S: Solver, T: Tell>(
     alloc: Global,
     base: Circuit,
     settings: ImproveSettings,
-    asked: LevelsAsked,
+    wishes: Wishes,
     tell: &T,
 ) -> Result<ImprovedText, AllocError>
     requires proper { IsProper base }
     requires range { IsInRange settings }
-    ensures { IfOk result (λ i. IsTextBy blif_format CanWriteBlif settings asked base i.text.items i.report.items) }
+    ensures { IfOk result (λ i. IsTextBy (blif_in wishes.covers) CanWriteBlif settings wishes.levels base i.text.items
+        i.report.items) }
 {
+    // for the prover: the cost is the same with the least covers
+    least_circuits_cost_the_same();
+    let asked = wishes.levels;
     let base_levels = levels_in(alloc, &base)?;
     let Written { improved, document } = reach::<S, T>(alloc, base, settings, asked, tell)?;
-    let text = blif_text_of(alloc, &document)?;
+    let text = blif_text_of(alloc, wishes.covers, document)?;
     let report = wished_report(alloc, asked, base_levels, &improved)?;
     Ok(ImprovedText { text, report })
 }

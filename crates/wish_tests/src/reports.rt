@@ -2,7 +2,7 @@
 ghost use Rattle.settings.specs.Improve.{IsInRange};
 
 use cdcl_core::Cdcl;
-use improve_wishes::{FormAsked, LevelsAsked, Wishes, wished_blif};
+use improve_wishes::{CoversAsked, FormAsked, LevelsAsked, Wishes, wished_blif};
 use progress::Silent;
 use settings::ImproveSettings;
 use std::alloc::Global;
@@ -22,6 +22,7 @@ fn report_of(alloc: Global, levels: LevelsAsked, text: &[u8]) -> Option<Vec<u8>>
     let wishes = Wishes {
         levels,
         form: FormAsked::Given,
+        covers: CoversAsked::Rows,
     };
     match wished_blif::<Cdcl, Silent>(alloc, text, defaults(), wishes, &Silent) {
         Ok(improved) => Some(improved.report),
