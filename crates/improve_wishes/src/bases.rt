@@ -23,7 +23,8 @@ pub(crate) fn base_of(
     requires { IsProper circuit }
     ensures base { IfOk result (λ b. IfBase b (IsBase only settings.now circuit)) }
     ensures cannot { IfOk result (λ b. IfCannot b (IsInexpressibleBy (members settings.now.basis) (left_of circuit))) }
-    ensures too_many { IfOk result (λ b. IfTooMany b (MayHaveTooMany (members settings.now.basis) (cleanup circuit.net))) }
+    ensures too_many { IfOk result (λ b. IfTooMany b
+        (MayHaveTooMany (members settings.now.basis) (cleanup circuit.net))) }
     ensures wish { IfOk result (λ b. IfNone b (only ≡ true)) }
 {
     if !only {

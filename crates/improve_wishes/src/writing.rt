@@ -4,7 +4,7 @@ ghost use Rattle.net_theory.specs.Circuit.{IsProper};
 ghost use Rattle.net_levels.specs.Levels.{levels_of};
 ghost use Rattle.blif_core.specs.Written.{written};
 ghost use Rattle.blif_core.specs.Spelling.{spelled, HasInit};
-ghost use Rattle.blif_core.specs.Blif.{blif_format, CanWriteBlif};
+ghost use Rattle.blif_core.specs.Blif.{CanWriteBlif};
 ghost use Rattle.bench_core.specs.Spelling.{circuit_text as gates_text};
 ghost use Rattle.bench_core.specs.Bench.{bench_format};
 ghost use Rattle.bench_core.specs.Writable.{IsBenchCircuit};

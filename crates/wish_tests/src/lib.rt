@@ -1,5 +1,8 @@
-//! Tests of netlists that are improved by wishes: the levels before and after, and netlists over a basis.
+//! Tests of netlists that are improved by wishes: the levels before and after, the covers, and
+//! netlists over a basis.
 #![tactic(auto)]
 
+#[cfg(test)]
+mod covers;
 #[cfg(test)]
 mod reports;
