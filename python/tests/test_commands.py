@@ -50,7 +50,7 @@ ADDER = EXAMPLES / 'improve' / 'adder.blif'
 
 
 # The options that only the program with files has.
-FRONT_ALONE = ('--size', '--part', '--most-bytes', '--at')
+FRONT_ALONE = ('--size', '--part', '--most-bytes', '--at', '--levels')
 
 
 class Synthesis(unittest.TestCase):

@@ -4,8 +4,9 @@ use crate::expected::{
     Entry, Place, Subject, after_most_bytes, entry_of, most_bytes, step_entry, word_entry,
 };
 use crate::finding::line_of;
+use crate::halves::is_blank;
 use crate::interfaces::push_difference;
-use crate::looks::{begins_aiger, begins_counted, remark_on};
+use crate::looks::{begins_counted, remark_on};
 use crate::netlists::{Role, line_of_name};
 use crate::tokens::{Separators, next_token};
 use help_text::{Part, push_parts, push_quoted};
@@ -19,6 +20,22 @@ pub struct Input<'a> {
     pub name: &'a [u8],
     /// Its bytes, if they are known.
     pub bytes: Option<&'a [u8]>,
+    /// How many lines of the file come before it; None if that isn't known.
+    pub before: Option<u32>,
+    /// The most bytes of it that are read, if an option says so.
+    pub most_bytes: Option<u32>,
+}
+
+impl<'a> Input<'a> {
+    /// A whole file, of which as much is read as the command always reads.
+    pub fn of(name: &'a [u8], bytes: Option<&'a [u8]>) -> Self {
+        Input {
+            name,
+            bytes,
+            before: Some(0),
+            most_bytes: None,
+        }
+    }
 }
 
 /// The inputs of a command. Of a command with one input both are the same.
@@ -53,12 +70,21 @@ fn number_of(fields: &[u8]) -> (u32, &[u8]) {
     (number_up_to(u32::MAX, word).unwrap_or(0), rest)
 }
 
-/// Appends the name of an input and a line of it; 0 stands for no line.
-fn push_place(text: &mut Vec<u8>, input: Input, line: u32) -> Result<(), AllocError> {
-    push_quoted(text, input.name)?;
-    if line > 0 {
-        push_parts(text, &[Part::Text(b":"), Part::Number(line)])?;
+/// Appends the number that a line of an input has in its file; 0 stands for no line.
+fn push_number(text: &mut Vec<u8>, input: Input, line: u32) -> Result<(), AllocError> {
+    match input.before {
+        Some(before) if line > 0 => push_parts(
+            text,
+            &[Part::Text(b":"), Part::Number(before.saturating_add(line))],
+        ),
+        _ => Ok(()),
     }
+}
+
+/// Appends the name of an input and a line of it; 0 stands for no line.
+pub(crate) fn push_place(text: &mut Vec<u8>, input: Input, line: u32) -> Result<(), AllocError> {
+    push_quoted(text, input.name)?;
+    push_number(text, input, line)?;
     text.extend_from_slice(b": ")
 }
 
@@ -180,51 +206,22 @@ fn push_step(text: &mut Vec<u8>, input: Input, fields: &[u8]) -> Result<(), Allo
 /// Appends that an input is too long.
 fn push_too_long(text: &mut Vec<u8>, subject: Subject, input: Input) -> Result<(), AllocError> {
     push_place(text, input, 0)?;
-    push_parts(
-        text,
-        &[
-            Part::Text(b"at most "),
-            Part::Count(most_bytes(subject)),
-            Part::Text(after_most_bytes(subject)),
-        ],
-    )
-}
-
-/// Whether the first line of a text in AIGER has but its word and numbers.
-fn is_header(text: &[u8]) -> bool {
-    let Some(found) = line_of(text, 1) else {
-        return false;
-    };
-    let (_, numbers) = next_token(Separators::Blanks, found.bytes);
-    for byte in numbers {
-        if !byte.is_ascii_digit() && *byte != b' ' {
-            return false;
-        }
-    }
-    true
-}
-
-/// Whether a fault is one of the first line, although that is one of AIGER: then the text was read as something else.
-fn is_of_header(fault: Fault, text: &[u8]) -> bool {
-    let (line, _) = number_of(fault.fields);
-    fault.name == b"Syntax".as_slice() && line == 1 && is_header(text)
-}
-
-/// The format of a netlist that is in AIGER by its first word, unless it was read as another, and else what the
-/// command reads.
-fn subject_in(subject: Subject, input: Input, fault: Fault) -> Subject {
-    let Some(text) = input.bytes else {
-        return subject;
-    };
-    match subject {
-        Subject::Blif | Subject::Bench => {
-            if begins_aiger(text) && !is_of_header(fault, text) {
-                Subject::Aiger
-            } else {
-                subject
-            }
-        }
-        _ => subject,
+    text.extend_from_slice(b"at most ")?;
+    match input.most_bytes {
+        Some(most) => push_parts(
+            text,
+            &[
+                Part::Number(most),
+                Part::Text(b" bytes are read, as --most-bytes says"),
+            ],
+        ),
+        None => push_parts(
+            text,
+            &[
+                Part::Count(most_bytes(subject)),
+                Part::Text(after_most_bytes(subject)),
+            ],
+        ),
     }
 }
 
@@ -242,6 +239,8 @@ fn shown_input(input: Input) -> Input {
         Input {
             name: input.name,
             bytes: None,
+            before: input.before,
+            most_bytes: input.most_bytes,
         }
     } else {
         input
@@ -289,6 +288,26 @@ fn push_fault(
     }
 }
 
+/// Whether nothing comes after the first of two netlists, as far as that is known.
+fn is_alone(inputs: &Inputs) -> bool {
+    match inputs.second.bytes {
+        Some(bytes) => is_blank(bytes),
+        None => false,
+    }
+}
+
+/// Appends how the interfaces of two netlists differ, and returns whether that is known.
+fn push_interfaces(text: &mut Vec<u8>, inputs: &Inputs) -> Result<bool, AllocError> {
+    if !is_alone(inputs) {
+        return push_difference(text, inputs);
+    }
+    push_place(text, inputs.first, 0)?;
+    text.extend_from_slice(
+        b"nothing comes after its first netlist: equiv compares two files, or two netlists in one text",
+    )?;
+    Ok(true)
+}
+
 /// Appends what was expected of an input of two, or of the certificate within another, or of the only one.
 fn push_led(
     text: &mut Vec<u8>,
@@ -321,15 +340,10 @@ fn push_led(
             fault_of(fault.fields),
         );
     }
-    if fault.name == b"DifferentInterface".as_slice() && push_difference(text, inputs)? {
+    if fault.name == b"DifferentInterface".as_slice() && push_interfaces(text, inputs)? {
         return Ok(true);
     }
-    push_fault(
-        text,
-        subject_in(subject, inputs.first, fault),
-        inputs.first,
-        fault,
-    )
+    push_fault(text, subject, inputs.first, fault)
 }
 
 /// Appends the line for people to an error line: the file, the line, what stands there, and what was expected.

@@ -1,7 +1,7 @@
 //! The first difference between the interfaces of two netlists.
 
 use crate::expected::Subject;
-use crate::explaining::{Input, Inputs};
+use crate::explaining::{Input, Inputs, push_place};
 use crate::naming::{Latch, List, Named, is_same_name, kind_of, plain_name, push_named, word_of};
 use crate::other_names::{aiger_names, bench_names};
 use crate::tokens::{goes_on, without_comment};
@@ -116,12 +116,16 @@ fn is_among(list: List, names: &[Named], name: Named) -> bool {
 
 /// Appends where a name stands: the name of the netlist, and the line if it is known.
 fn push_where(text: &mut Vec<u8>, list: List, input: Input, name: Named) -> Result<(), AllocError> {
-    push_quoted(text, input.name)?;
-    if name.line > 0 {
-        push_parts(text, &[Part::Text(b":"), Part::Number(name.line)])?;
-    }
-    text.extend_from_slice(b": ")?;
+    push_place(text, input, name.line)?;
     push_named(text, list, name)
+}
+
+/// Appends what the other of two netlists is called: both may be in one text.
+fn push_other(text: &mut Vec<u8>, input: Input, other: Input) -> Result<(), AllocError> {
+    if input.name == other.name {
+        return text.extend_from_slice(b"the other netlist");
+    }
+    push_quoted(text, other.name)
 }
 
 /// Appends that a name of one netlist is missing in the other, or stands at another place there.
@@ -135,7 +139,7 @@ fn push_missing(
 ) -> Result<(), AllocError> {
     push_where(text, list, input, name)?;
     text.extend_from_slice(b": ")?;
-    push_quoted(text, other.name)?;
+    push_other(text, input, other)?;
     if is_among(list, others, name) {
         push_parts(
             text,
@@ -186,7 +190,7 @@ fn push_latch(
 ) -> Result<(), AllocError> {
     push_where(text, List::Latches, inputs.second, other)?;
     text.extend_from_slice(said_of(one, other))?;
-    push_quoted(text, inputs.first.name)
+    push_other(text, inputs.second, inputs.first)
 }
 
 /// The place of the first difference of two lists, from 0; None if there is none.

@@ -6,7 +6,7 @@
 //! it changes nothing, and ends.
 //!
 //! ```text
-//! let first = Input { name: b"adder.blif", bytes: Some(&text) };
+//! let first = Input::of(b"adder.blif", Some(&text));
 //! let inputs = Inputs { first, second: first, first_format: Subject::Blif, second_format: Subject::Blif };
 //! push_explained(&mut line, Subject::Blif, b"error: NotSupported 10 .subckt\n", &inputs)?;
 //! // adder.blif:10: .subckt: a netlist of one model without hierarchy is read; yosys: flatten; techmap
@@ -17,6 +17,7 @@ mod chain_faults;
 mod expected;
 mod explaining;
 mod finding;
+mod halves;
 mod interfaces;
 mod looks;
 mod naming;
@@ -27,3 +28,4 @@ mod tokens;
 
 pub use expected::{Subject, has_entry, has_step_entry};
 pub use explaining::{Input, Inputs, push_explained};
+pub use halves::{Halves, halves_of};

@@ -20,7 +20,7 @@ pub(crate) fn begins_counted(word: &[u8], text: &[u8]) -> bool {
 }
 
 /// Whether a text is in AIGER by its first word.
-pub(crate) fn begins_aiger(text: &[u8]) -> bool {
+fn begins_aiger(text: &[u8]) -> bool {
     begins_counted(b"aag ", text) || begins_counted(b"aig ", text)
 }
 

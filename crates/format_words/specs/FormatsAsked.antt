@@ -97,8 +97,9 @@ file_words_of line = option_words (codes "-o") line.output ++ option_words (code
 abbrev pub basis_words : List (List ℕ) → List (List ℕ)
 basis_words options = if is_named (codes "--basis") options then [] else codes "--basis" ∷ codes "u2" ∷ []
 
+-- `improve` of AIGER is that of BLIF to a program that knows no AIGER, whatever the end of the file's name says.
 abbrev pub extra_words : FormatsAsked → List (List ℕ) → List (List ℕ)
-extra_words ImproveAiger options = basis_words options
+extra_words ImproveAiger options = codes "--format" ∷ codes "blif" ∷ basis_words options
 extra_words asked options = []
 
 abbrev pub rebuilt_from : FormatsAsked → Line → List (List ℕ) → List (List ℕ)
@@ -126,8 +127,8 @@ abbrev pub plain_on : Option Line → List (List ℕ) → List (List ℕ)
 plain_on None words = words
 plain_on (Some line) words = plain_in (asked_in line.words line.operands) words line
 
--- The words that mean the same to a program that knows none of these formats: without `--format`, and with the basis
--- `u2` for `improve` of AIGER if none is named. Other words stay as they are.
--- Example: of `improve --format aiger --cap 4 a` they are `improve --cap 4 --basis u2 -- a`.
+-- The words that mean the same to a program that knows none of these formats: without `--format`; for `improve` of
+-- AIGER with `--format blif`, and with the basis `u2` if none is named. Other words stay as they are.
+-- Example: of `improve --format aiger --cap 4 a` they are `improve --cap 4 --format blif --basis u2 -- a`.
 abbrev pub plain_words : List (List ℕ) → List (List ℕ)
 plain_words words = plain_on (file_line words) words

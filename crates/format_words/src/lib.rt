@@ -3,12 +3,13 @@
 //!
 //! A format is named by `--format aiger`, or by the end of a file's name (`.aag`, `.aig`, `.bench`). `read_formats`
 //! says what is asked (`specs/FormatsAsked.antt`), and which words mean the same to a program that knows no such
-//! format: `--format` is left out, and `improve` of AIGER gets the basis `u2` if none is named.
+//! format: `--format` is left out, and `improve` of AIGER gets `--format blif`, so that the name of its file has no
+//! say, and the basis `u2` if none is named.
 //!
 //! ```text
 //! let found = read_formats(alloc, &words)?; // of improve a.aag --cap 4
 //! found.asked     // ImproveAiger
-//! found.words     // improve --cap 4 --basis u2 -- a.aag
+//! found.words     // improve --cap 4 --format blif --basis u2 -- a.aag
 //! ```
 #![tactic(auto)]
 

@@ -100,6 +100,17 @@ pub fn push_basis(
     push_word(alloc, words, "u2")
 }
 
+/// Appends the words of `improve` of AIGER: those of `improve` of BLIF over gates that AIGER can express.
+fn push_aiger(alloc: Global, words: &mut Vec<String>, options: &[String]) -> Result<(), AllocError>
+    ensures { OnOk result (map string_bytes words.new.items ≡
+        map string_bytes words.old.items ++
+        spec.extra_words FormatsAsked.ImproveAiger (map string_bytes options.now)) }
+{
+    push_word(alloc, words, "--format")?;
+    push_word(alloc, words, "blif")?;
+    push_basis(alloc, words, options)
+}
+
 /// Appends the words that stand for a format.
 fn push_extra(
     alloc: Global,
@@ -111,7 +122,7 @@ fn push_extra(
         map string_bytes words.old.items ++ spec.extra_words asked (map string_bytes options.now)) }
 {
     match asked {
-        FormatsAsked::ImproveAiger => push_basis(alloc, words, options),
+        FormatsAsked::ImproveAiger => push_aiger(alloc, words, options),
         FormatsAsked::Own | FormatsAsked::Compare(_) => Ok(()),
     }
 }

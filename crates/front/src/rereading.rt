@@ -9,7 +9,7 @@ use std::{fs, io};
 /// The most bytes that are read again.
 const MOST_REREAD: usize = 33_554_432;
 
-/// The plain files of the system. What isn't a plain file, as a pipe, can be read but once.
+/// The plain files of the system. What isn't a plain file, as a pipe, may be read but once.
 #[derive(Drop)]
 pub(crate) struct Rereading<'a> {
     rt: &'a HostRuntime,
@@ -38,13 +38,6 @@ impl<'a> Rereads for Rereading<'a> {
         match read_all(alloc, &mut InputPort::new(file), MOST_REREAD) {
             Ok(bytes) => Some(bytes),
             Err(_) => None,
-        }
-    }
-
-    fn is_read_once(&self, name: &str) -> bool {
-        match fs::metadata(self.rt, name) {
-            Ok(found) => !found.is_file() && !found.is_dir(),
-            Err(_) => false,
         }
     }
 }

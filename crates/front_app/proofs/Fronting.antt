@@ -24,7 +24,7 @@ use Rattle.format_names.specs.declared.formats.FormatPair.{FormatPair}
 use Rattle.chain_app.specs.KeepsPromises.{KeepsPromises}
 use Rattle.front_app.specs.Comparison.{pair_of, KeepsComparison}
 use Rattle.front_app.specs.Named.{KeepsNamed}
-use Rattle.front_app.specs.Fronted.{formats_of, promises_of, IsFormatted, IsFrontedBy, IsFronted}
+use Rattle.front_app.specs.Fronted.{formats_of, promises_of, IsFormatted, IsWishedOr, IsFrontedBy, IsFronted}
 
 pub no_memory : (words : List (List ℕ)) (state : FilesState) (source out note note' : PortState) (status : Status) →
     Writes note note' (error_line memory) → status ≡ statuses.Memory →
@@ -83,7 +83,7 @@ by_command : (read_as : Option Command) (command : Command) (r : FrontRun) → O
 by_command (Some other) command r is guided = guided
 by_command None command r is guided = absurd cc
 
-by_format : (read_as : Option Command) (problem : WordsError) (r : FrontRun) → Err problem ≡ or_usage read_as → IsFormatted r → IsFrontedBy read_as r
+by_format : (read_as : Option Command) (problem : WordsError) (r : FrontRun) → Err problem ≡ or_usage read_as → IsWishedOr r → IsFrontedBy read_as r
 by_format (Some other) problem r is formatted = absurd cc
 by_format None problem r is formatted = formatted
 
@@ -96,7 +96,7 @@ as_they_are words command files source out note status is guided =
 
 -- all others
 pub by_formats : (words : List (List ℕ)) (problem : WordsError) (files : Files) (source out note : Pass) (status : Status) →
-    Err problem ≡ read words → IsFormatted (front_run words files source out note status) →
+    Err problem ≡ read words → IsWishedOr (front_run words files source out note status) →
     IsFronted (front_run words files source out note status)
 by_formats words problem files source out note status is formatted =
     by_format (command_of words) problem (front_run words files source out note status) is formatted

@@ -2,3 +2,4 @@ pub mod Comparing
 pub mod Naming
 pub mod AigerWords
 pub mod Fronting
+pub mod Wishing

@@ -1,4 +1,4 @@
--- How a run ends, by the formats that its words ask for.
+-- How a run ends, by the formats and the wishes that its words ask for.
 use Rattle.std.specs.Prelude.{◌⊎◌, ℕ, List, Option, Some, None}
 use Rattle.command_line.specs.declared.command.Command.{Command}
 use Rattle.command_line.specs.CommandLine.{command_of}
@@ -10,6 +10,8 @@ use Rattle.frame_core.specs.declared.status.Status.TheVariants.{Memory}
 use Rattle.frame_core.specs.Reported.{memory}
 use Rattle.front_core.specs.Front.{Promises, promised_by, FrontRun, front_run, Reports}
 use Rattle.front_guide.specs.Guided.{IsGuided}
+use Rattle.front_wish.specs.AskedWishes.{Wish, wish_of}
+use Rattle.front_wish.specs.WishRuns.{IsWishServed}
 use Rattle.chain_app.specs.KeepsPromises.{KeepsPromises}
 use Rattle.front_app.specs.Comparison.{blif_pair, KeepsComparison}
 use Rattle.front_app.specs.Named.{KeepsNamed}
@@ -38,10 +40,19 @@ IsFormatted r =
     Reports memory Memory r ⊎
     IsGuided (formats_of (asked_of r.words)) (promises_of (asked_of r.words)) (with_words (plain_words r.words) r)
 
+-- By what the words wish of the netlist that `improve` writes, if they wish something.
+abbrev pub IsWishedBy : Option Wish → FrontRun → Type 0
+IsWishedBy (Some wish) r = IsWishServed wish r
+IsWishedBy None r = IsFormatted r
+
+-- A run of words that are no command line as they are: memory ran out before they were read, or it is by their wishes.
+abbrev pub IsWishedOr : FrontRun → Type 0
+IsWishedOr r = Reports memory Memory r ⊎ IsWishedBy (wish_of r.words) r
+
 -- By the command that the words are to the program over streams, if they are one: such words ask for no format.
 abbrev pub IsFrontedBy : Option Command → FrontRun → Type 0
 IsFrontedBy (Some command) r = IsGuided (formats_of Own) (promises_of Own) r
-IsFrontedBy None r = IsFormatted r
+IsFrontedBy None r = IsWishedOr r
 
 abbrev pub IsFronted : FrontRun → Type 0
 IsFronted r = IsFrontedBy (command_of r.words) r

@@ -9,7 +9,8 @@
 //! promises, and a named output holds the whole answer, or what it held before; `formula` writes a part of a
 //! certificate, and `equiv --formula` the miter; `equiv --at` writes values, each netlist in its format; `synth
 //! --size` searches a part, and `recheck --most-bytes` reads longer certificates; words that ask for help get a page.
-//! Over a netlist that is named, `improve` refuses an empty text (`specs/Named`); over AIGER it keeps `specs/Aiger`.
+//! Over a netlist that is named, `improve` refuses an empty text (`specs/Named`); over AIGER it keeps `specs/Aiger`; by
+//! wishes it is `IsWishServed` (`specs/WishRuns` of `front_wish`).
 //! Two files of `equiv` are compared each in its format (`specs/Comparison`).
 //!
 //! ```text

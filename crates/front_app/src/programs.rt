@@ -13,6 +13,7 @@ use cmd_formats::EquivFormats;
 use format_names::{FormatPair, NetFormat};
 use frame_core::{AtOnce, Status, perform};
 use front_core::Program;
+use front_guide::Improves;
 use port_io::{Sink, Source};
 use progress::Tell;
 use std::alloc::Global;
@@ -108,6 +109,12 @@ impl<'a, T: Tell, F: KnownFormat, G: KnownFormat> Program for Strict<'a, T, F, G
     }
 }
 
+impl<'a, T: Tell, F: KnownFormat, G: KnownFormat> Improves for Strict<'a, T, F, G> {
+    fn improved(&self) -> Option<NetFormat> {
+        None
+    }
+}
+
 /// `improve` over AIGER, and who is told of its progress.
 #[derive(Drop)]
 pub(crate) struct OverAiger<'a, T> {
@@ -161,5 +168,11 @@ impl<'a, T: Tell> Program for OverAiger<'a, T> {
             second: NetFormat::Blif,
         };
         compare_in(alloc, formats, budget, text, source, out, note, self.tell)
+    }
+}
+
+impl<'a, T: Tell> Improves for OverAiger<'a, T> {
+    fn improved(&self) -> Option<NetFormat> {
+        Some(NetFormat::Aiger)
     }
 }

@@ -7,7 +7,7 @@ ghost use Rattle.front_core.specs.Front.{front_run, promised_by};
 ghost use Rattle.front_guide.specs.Guided.{IsGuided};
 ghost use Rattle.front_app.specs.Aiger.{KeepsAiger};
 ghost use Rattle.front_app.specs.Comparison.{pair_of, blif_pair, KeepsComparison};
-ghost use Rattle.front_app.specs.Fronted.{formats_of, promises_of, IsFormatted, IsFronted};
+ghost use Rattle.front_app.specs.Fronted.{formats_of, promises_of, IsFormatted, IsWishedOr, IsFronted};
 ghost use Rattle.front_app.specs.Named.{KeepsNamed};
 
 use crate::formats::{InAiger, InBench, InBlif, KnownFormat};
@@ -19,6 +19,7 @@ use format_words::{FormatsAsked, read_formats};
 use frame_core::Status;
 use front_core::report_memory;
 use front_guide::{Recalls, Rereads, Retells, guide};
+use front_wish::{serve_wish, wish_line};
 use port_io::Sink;
 use progress::Tell;
 use std::alloc::Global;
@@ -231,6 +232,35 @@ fn serve_formats<W: Outside, S: Recalls, O: Sink, N: Retells, R: Rereads, T: Tel
     )
 }
 
+/// Runs the command of words that may wish something of the netlist that `improve` writes, or ask for formats.
+#[tactic(auto, using(crate::proofs::Wishing::wishing))]
+fn serve_wishes<W: Outside, S: Recalls, O: Sink, N: Retells, R: Rereads, T: Tell>(
+    alloc: Global,
+    words: &Vec<String>,
+    outside: &mut W,
+    source: &mut S,
+    out: &mut O,
+    note: &mut N,
+    reader: &R,
+    tell: &T,
+) -> Status
+    ensures { IsWishedOr (front_run (spelled words.now)
+        (files_before_after W.holds W.faults outside.old outside.new)
+        (before_after S.left S.faults source.old source.new)
+        (before_after O.written O.faults out.old out.new)
+        (before_after N.written N.faults note.old note.new)
+        result) }
+{
+    let found = match wish_line(alloc, words) {
+        Ok(found) => found,
+        Err(_) => return report_memory(note),
+    };
+    let Some(wish) = &found else {
+        return serve_formats(alloc, words, outside, source, out, note, reader, tell);
+    };
+    serve_wish::<W, S, O, N, R, T>(alloc, wish, outside, source, out, note, reader, tell)
+}
+
 /// Runs the command that the words ask for: over the files that they name, or else over `source` and `out`. A report,
 /// and one error line if there is no answer, go to `note`; after the error line comes one for people. Words that ask
 /// for help get a page. Who is told of the progress has no say in any of this.
@@ -263,6 +293,6 @@ pub fn serve<W: Outside, S: Recalls, O: Sink, N: Retells, R: Rereads, T: Tell>(
             reader,
             tell,
         ),
-        Err(_) => serve_formats(alloc, words, outside, source, out, note, reader, tell),
+        Err(_) => serve_wishes(alloc, words, outside, source, out, note, reader, tell),
     }
 }

@@ -13,6 +13,7 @@ ghost use Rattle.front_guide.specs.Words as spec;
 
 use crate::explaining::{Rereads, netlist_line, people_line};
 use crate::remembering::{Recalls, Retells};
+use crate::subjects::Improves;
 use command_line::read_words;
 use file_io::Outside;
 use file_words::FileLine;
@@ -155,7 +156,7 @@ pub fn hint_of_netlist<S: Recalls, N: Retells, R: Rereads>(
 /// Writes the page that words ask for; or runs the command that they ask for, and where it has no answer, writes a line
 /// for people after the error line. Netlists whose values are asked for are in these formats.
 #[tactic(auto, using(crate::proofs::Runs::guided))]
-pub fn guide<P: Program, W: Outside, S: Recalls, O: Sink, N: Retells, R: Rereads>(
+pub fn guide<P: Program + Improves, W: Outside, S: Recalls, O: Sink, N: Retells, R: Rereads>(
     alloc: Global,
     program: &P,
     formats: FormatPair,
@@ -180,7 +181,10 @@ pub fn guide<P: Program, W: Outside, S: Recalls, O: Sink, N: Retells, R: Rereads
     if is_found(status) {
         return status;
     }
-    let hint = people_line(alloc, formats, words, status, source, note, reader);
+    let improved = program.improved();
+    let hint = people_line(
+        alloc, improved, formats, words, status, source, note, reader,
+    );
     write_hint(note, &hint);
     status
 }

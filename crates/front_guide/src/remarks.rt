@@ -1,7 +1,6 @@
-//! Lines for people on the files of a line: one that can't be written, one that is read more than once, and netlists
-//! that are read as BLIF whatever their names say.
+//! Lines for people on the files of a line: those that can't be written, and netlists that are read as BLIF whatever
+//! their names say.
 
-use crate::explaining::Rereads;
 use file_words::{FileLine, is_standard};
 use format_names::{FormatPair, NetFormat};
 use help_text::push_quoted;
@@ -29,8 +28,16 @@ fn value_of<'a>(name: &[u8], words: &'a [String]) -> Option<&'a String> {
     None
 }
 
-/// Appends the name of an output, if it is named and isn't standard output.
-fn push_output(text: &mut Vec<u8>, file: Option<&String>) -> Result<(), AllocError> {
+/// Whether a file is named, and isn't standard output.
+fn is_file(file: Option<&String>) -> bool {
+    match file {
+        Some(name) => !is_standard(name.as_str()),
+        None => false,
+    }
+}
+
+/// Appends the name of a file that is written, if it isn't standard output.
+fn push_file(text: &mut Vec<u8>, file: Option<&String>) -> Result<(), AllocError> {
     let Some(name) = file else {
         return Ok(());
     };
@@ -43,44 +50,36 @@ fn push_output(text: &mut Vec<u8>, file: Option<&String>) -> Result<(), AllocErr
     push_quoted(text, name.as_bytes())
 }
 
-/// Appends that the files of a line couldn't be written, to a text that is empty; nothing if it names none.
-pub(crate) fn push_unwritten(text: &mut Vec<u8>, line: &FileLine) -> Result<(), AllocError> {
-    push_output(text, line.output.as_ref())?;
-    push_output(text, line.certificate.as_ref())?;
-    push_output(text, value_of(b"--formula", &line.words))?;
-    push_output(text, value_of(b"--log", &line.words))?;
+/// Appends what a line writes, to a text that is empty; nothing if it names no file.
+fn push_written(text: &mut Vec<u8>, line: &FileLine) -> Result<(), AllocError> {
+    let output = line.output.as_ref();
+    let certificate = line.certificate.as_ref();
+    let formula = value_of(b"--formula", &line.words);
+    let log = value_of(b"--log", &line.words);
+    if is_file(output) {
+        push_file(text, output)?;
+    } else if is_file(certificate) || is_file(formula) || is_file(log) {
+        text.extend_from_slice(b"standard output")?;
+    }
+    push_file(text, certificate)?;
+    push_file(text, formula)?;
+    push_file(text, log)
+}
+
+/// Appends what a line writes, to a text that is empty, where its error line doesn't say what couldn't be written.
+pub(crate) fn push_unnamed(
+    text: &mut Vec<u8>,
+    line: &FileLine,
+    error_line: &[u8],
+) -> Result<(), AllocError> {
+    if error_line != b"error: WriteFault".as_slice() {
+        return Ok(());
+    }
+    push_written(text, line)?;
     if text.is_empty() {
         return Ok(());
     }
     text.extend_from_slice(b": writing failed; is there space left?\n")
-}
-
-/// Appends that a file is read more than once, if it is one that can't be.
-fn push_read_once<R: Rereads>(
-    text: &mut Vec<u8>,
-    file: &String,
-    reader: &R,
-) -> Result<(), AllocError> {
-    if is_standard(file.as_str()) || !reader.is_read_once(file.as_str()) {
-        return Ok(());
-    }
-    push_quoted(text, file.as_bytes())?;
-    text.extend_from_slice(b": it is read more than once, as a pipe can't be: a plain file can\n")
-}
-
-/// Appends which files of a line are read more than once, and can't be.
-fn push_pipes<R: Rereads>(
-    text: &mut Vec<u8>,
-    line: &FileLine,
-    reader: &R,
-) -> Result<(), AllocError> {
-    if !names(b"--formula", &line.words) && !names(b"--log", &line.words) {
-        return Ok(());
-    }
-    for file in &line.operands {
-        push_read_once(text, file, reader)?;
-    }
-    Ok(())
 }
 
 /// Whether both netlists are in BLIF.
@@ -89,13 +88,11 @@ fn are_blif(formats: FormatPair) -> bool {
 }
 
 /// Appends what else there is to say of the files of a line. Its words ask for netlists in these formats.
-pub(crate) fn push_remarks<R: Rereads>(
+pub(crate) fn push_remarks(
     text: &mut Vec<u8>,
     formats: FormatPair,
     line: &FileLine,
-    reader: &R,
 ) -> Result<(), AllocError> {
-    push_pipes(text, line, reader)?;
     if names(b"--formula", &line.words) && !are_blif(formats) {
         text.extend_from_slice(b"batsokemi: with --formula both netlists are read as BLIF\n")?;
     }

@@ -147,8 +147,16 @@ impl<N: Sink> Sink for Retelling<N> {
     }
 }
 
+/// A line without the LF at its end.
+fn without_end(line: &[u8]) -> &[u8] {
+    match line.split_last() {
+        Some((last, rest)) => { if *last == b'\n' { rest } else { line } }
+        None => line,
+    }
+}
+
 impl<N: Sink> Retells for Retelling<N> {
     fn last_line(&self) -> &[u8] {
-        &self.line
+        without_end(&self.line)
     }
 }

@@ -1,19 +1,18 @@
-//! Each layer of the front over a small program, which writes what it reads.
+//! Each layer below `guide` over a small program, which writes what it reads.
 
-use crate::files::{Known, files_of, words_of};
+use crate::files::{files_of, words_of};
 use format_names::{FormatPair, NetFormat};
 use frame_tests::{Echo, MemoryFiles};
 use front_app::{Remembering, Retelling};
 use port_io::{MemorySink, MemorySource};
 use std::alloc::{AllocError, Global};
 
-/// The layers.
+/// The layers below `guide`.
 #[derive(Clone, Copy)]
 enum Layer {
     Formula,
     Large,
     At,
-    Guide,
 }
 
 const BLIF: FormatPair = FormatPair {
@@ -53,17 +52,6 @@ fn status_of(
             out,
             &mut note,
         ),
-        Layer::Guide => front_guide::guide(
-            alloc,
-            &Echo,
-            BLIF,
-            words,
-            files,
-            &mut source,
-            out,
-            &mut note,
-            &Known,
-        ),
     };
     Ok(status.number())
 }
@@ -85,7 +73,7 @@ fn writes(alloc: Global, layer: Layer, line: &str, wanted: &str) -> bool {
     }
 }
 
-const LAYERS: &[Layer] = &[Layer::Formula, Layer::Large, Layer::At, Layer::Guide];
+const LAYERS: &[Layer] = &[Layer::Formula, Layer::Large, Layer::At];
 
 #[test]
 fn each_layer_hands_on_words_of_the_program(rt: HostRuntime) {

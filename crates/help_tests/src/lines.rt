@@ -1,6 +1,6 @@
 //! Lines after error lines, as a table.
 
-use error_help::{Input, Inputs, Subject, push_explained};
+use error_help::{Input, Inputs, Subject, halves_of, push_explained};
 use std::alloc::Global;
 
 /// Whether this is the line after an error line; none if it is empty.
@@ -26,14 +26,8 @@ fn is_explained(
     text: &str,
     wanted: &str,
 ) -> bool {
-    let first = Input {
-        name: b"a",
-        bytes: Some(text.as_bytes()),
-    };
-    let second = Input {
-        name: b"b",
-        bytes: Some(text.as_bytes()),
-    };
+    let first = Input::of(b"a", Some(text.as_bytes()));
+    let second = Input::of(b"b", Some(text.as_bytes()));
     let inputs = Inputs {
         first,
         second,
@@ -51,14 +45,8 @@ fn is_of_format(
     text: &str,
     wanted: &str,
 ) -> bool {
-    let first = Input {
-        name: b"a",
-        bytes: Some(text.as_bytes()),
-    };
-    let second = Input {
-        name: b"b",
-        bytes: Some(NETLIST.as_bytes()),
-    };
+    let first = Input::of(b"a", Some(text.as_bytes()));
+    let second = Input::of(b"b", Some(NETLIST.as_bytes()));
     let inputs = Inputs {
         first,
         second,
@@ -112,13 +100,20 @@ const LINES: &[(Subject, &str, &str, &str)] = &[
         "a:4: y: a name is driven once: by an input, a table or gate, or a latch\n",
     ),
     (
-        Subject::Blif,
+        Subject::Aiger,
         "error: Syntax 3",
         "aag 3 2 0 1 1\n2\n3\n7\n6 4 2\n",
         "a:3: 3: `aag M I L O A`, then inputs, latches, outputs, gates and symbols (batsokemi help aiger)\n",
     ),
     (
-        Subject::Blif,
+        Subject::Aiger,
+        "error: Syntax 1",
+        ".model a\n",
+        "a:1: .model a: `aag M I L O A`, then inputs, latches, outputs, gates and symbols (batsokemi help aiger); \
+         it looks like BLIF\n",
+    ),
+    (
+        Subject::Aiger,
         "error: Syntax 5",
         "aig 3 2 0 1 1\n7\n2",
         "a:5: `aag M I L O A`, then inputs, latches, outputs, gates and symbols (batsokemi help aiger)\n",
@@ -230,4 +225,74 @@ fn a_line_speaks_of_the_format(rt: HostRuntime) {
             "{error_line}"
         );
     }
+}
+
+/// Whether this is the line after an error line of two netlists in one text.
+fn is_of_halves(alloc: Global, error_line: &str, text: &str, wanted: &str) -> bool {
+    let halves = halves_of(Input::of(b"a", Some(text.as_bytes())));
+    let inputs = Inputs {
+        first: halves.first,
+        second: halves.second,
+        first_format: Subject::Blif,
+        second_format: Subject::Blif,
+    };
+    is_line(alloc, Subject::Pair, error_line, &inputs, wanted)
+}
+
+/// The error line, the text of two netlists, and the line after it.
+const HALVES: &[(&str, &str, &str)] = &[
+    (
+        "error: DifferentInterface",
+        ".inputs a\n.end # all\n\n# nothing\n",
+        "a: nothing comes after its first netlist: equiv compares two files, or two netlists in one text\n",
+    ),
+    (
+        "error: DifferentInterface",
+        ".inputs a \\\n.end\n.end\n.inputs a .end\n.outputs y\n",
+        "a:5: y: the other netlist has no output of this name\n",
+    ),
+    (
+        "error: Second Syntax 2",
+        ".inputs a\n.end\n.inputs a\nb\n",
+        "a:4: b: a statement as `.names a b y`, or a line of its table as `1- 1` (batsokemi help blif)\n",
+    ),
+    (
+        "error: Second Undriven q",
+        ".inputs q\n.end\n.names q y\n1 1\n",
+        "a:3: q: an input, a table or gate, or a latch drives each name that is read\n",
+    ),
+];
+
+#[test]
+fn a_line_speaks_of_both_halves(rt: HostRuntime) {
+    for &(error_line, text, wanted) in HALVES {
+        assert!(rt;
+            is_of_halves(rt.alloc(), error_line, text, wanted),
+            "{error_line}"
+        );
+    }
+}
+
+/// Whether the line after a text that is too long names the limit that was asked for.
+fn is_of_limit(alloc: Global) -> bool {
+    let mut input = Input::of(b"a", None);
+    input.most_bytes = Some(10);
+    let inputs = Inputs {
+        first: input,
+        second: input,
+        first_format: Subject::Blif,
+        second_format: Subject::Blif,
+    };
+    is_line(
+        alloc,
+        Subject::Certificate,
+        "error: TooLong",
+        &inputs,
+        "a: at most 10 bytes are read, as --most-bytes says\n",
+    )
+}
+
+#[test]
+fn a_line_names_the_limit(rt: HostRuntime) {
+    assert!(rt; is_of_limit(rt.alloc()));
 }

@@ -68,6 +68,10 @@ const WRONG: &[(&str, &str)] = &[
          and not 'all' (batsokemi help improve)\n",
     ),
     (
+        "improve --levels x a",
+        "batsokemi: --levels takes tell, keep, or 0 to 1000000, and not 'x' (batsokemi help improve)\n",
+    ),
+    (
         "formula --log l -",
         "batsokemi: with --log the certificate is read twice: it has to be a file (batsokemi help formula)\n",
     ),
@@ -121,7 +125,7 @@ const WRONG: &[(&str, &str)] = &[
         "batsokemi: with --formula both netlists are read twice: they have to be files (batsokemi help equiv)\n",
     ),
     (
-        "improve --basis all -- x.aag",
+        "improve --basis all --format blif -- x.aag",
         "batsokemi: for AIGER the basis is without 0110 and 1001, as u2 or nand, and not 'all' \
          (batsokemi help improve)\n",
     ),

@@ -258,9 +258,9 @@ fn is_bench(words: &[String]) -> bool {
     }
 }
 
-/// Whether the netlist may be in AIGER. `--format aiger` may have been left out of the words.
+/// Whether the netlist may be in AIGER: in place of `--format aiger` the words may have `--format blif`.
 fn may_be_aiger(words: &[String]) -> bool {
-    !is_bench(words) && !has_value(b"--format", b"blif", words)
+    !is_bench(words)
 }
 
 /// Whether the basis has an operator that isn't in a set.

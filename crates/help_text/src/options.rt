@@ -66,6 +66,9 @@ const MOST_OF_CERTIFICATE: u32 = 268_435_456;
 
 const MOST_OF_LONG: u32 = 2_147_483_647;
 
+/// The greatest number of levels that can be named.
+const MOST_LEVELS: u32 = 1_000_000;
+
 const YES_OR_NO: Allowed = Allowed::Words(&[b"yes", b"no"]);
 
 const METHODS: Allowed = Allowed::Words(&[
@@ -268,6 +271,13 @@ const IMPROVE: &[Row] = &[
         allowed: Allowed::Basis,
         default: Default::Word(b"all"),
         says: b"operators that new gates may have; for BENCH a subset of `bench`, for AIGER all but 0110 and 1001",
+    },
+    Row {
+        name: b"--levels",
+        value: b"LEVELS",
+        allowed: Allowed::WordsOr(&[b"tell", b"keep"], MOST_LEVELS),
+        default: Default::Nothing,
+        says: b"tell: the report has the levels before and after; keep or N: no more levels than before, or than N",
     },
     METHOD,
     Row {

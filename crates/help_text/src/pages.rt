@@ -231,10 +231,13 @@ const IMPROVE: &[u8] = b"batsokemi improve [OPTION VALUE].. [NETLIST] [-o NETLIS
 
 Reads a netlist in BLIF, BENCH or AIGER and writes an equivalent one of the same format
 with no more gates, by exact resynthesis of windows of up to --cap gates. For AIGER the default of --basis
-is u2: AND gates with complements. Its report goes to standard error:
+is u2: AND gates with complements; it is written in the form that was read, or as the name of -o ends: .aag
+(ASCII) or .aig (binary). The report goes to standard error:
 
   gates A -> B       two-input gates before and after: a wider .names counts as several, a copy or a
                      constant as none
+  levels D -> E      with --levels: the gates on a longest path, before and after; with keep or N these
+                     are all lines, since no window is searched exactly
   undecided G [P] C  the search for the window of C gates with root G (and partner P) spent its budget;
                      its certificate follows
   settled            no other listed window up to the cap has a smaller implementation
@@ -246,8 +249,9 @@ walks, and none below 6 gates.
 ";
 
 const IMPROVE_EXAMPLE: &[u8] = b"
-Example:
+Examples:
   batsokemi improve --cap 4 in.blif -o out.blif
+  batsokemi improve --levels keep in.aag -o out.aig
 ";
 
 const EQUIV: &[u8] = b"batsokemi equiv [OPTION VALUE].. FIRST SECOND

@@ -166,7 +166,8 @@ const AIGER: &[u8] = b"Netlists: AIGER
 The ASCII form of AIGER 1.9, read and written by improve --format aiger, and where the name of the file that is
 read ends with .aag or .aig; equiv reads it too. A literal is twice a variable, and one more for its complement;
 0 and 1 are the constants. The binary form, which begins with `aig`, is read in the same places, and improve
-writes the form that it read; an error has the line of the ASCII form, which `aigtoaig` makes.
+writes the form that it read, or as the name of -o ends; an error has the line of the ASCII form, which
+`aigtoaig` makes.
 
   aag 3 2 0 1 1
   2

@@ -4,12 +4,15 @@ ghost use Rattle.file_io.specs.Names.{Begins};
 ghost use Rattle.system_files.specs.Drafts.{draft_faults};
 ghost use Rattle.system_files.specs.Counts.{files_faults};
 
+use crate::names::{Stream, is_of_open_file, part_of, stream_of};
+use crate::targets::Target;
 use file_io::{Outside, Reason};
 use port_io::{Failed, InputPort, OutputPort, Sink};
 use progress::{Progress, Tell, WatchedSource, Written};
 use std::alloc::{AllocError, Global};
 use std::fs::{File, OpenOptions, Permissions};
 use std::io::{Error, ErrorKind};
+use std::os::unix::fs::FileTypeExt;
 use std::{fs, io, process};
 
 /// The files of the system, and how many calls of each kind have failed. It tells how much is read and written.
@@ -17,15 +20,17 @@ use std::{fs, io, process};
 pub struct SystemFiles<'a, T> {
     rt: &'a HostRuntime,
     tell: &'a T,
+    pipes: Vec<String>,
     unopened: u64,
     uncreated: u64,
     unkept: u64,
 }
 
-/// A file that is written: beside its name, or in place where the name leads to what isn't a plain file.
+/// A file that is written: beside its name, or in place where the name leads to what isn't a plain file, or to a file
+/// that is open.
 #[derive(Drop)]
 pub struct SystemDraft<'a, T> {
-    port: OutputPort<File>,
+    port: OutputPort<Target>,
     tell: &'a T,
     written: Written,
     is_begun: bool,
@@ -70,23 +75,74 @@ fn reason_of(alloc: Global, error: &Error) -> Reason {
     Reason { text }
 }
 
-/// The reason where a draft that is written in place would be read again.
-fn unreadable(alloc: Global) -> Reason {
-    let text = match Vec::from_slice(alloc, b"it isn't a plain file, and so can't be read again") {
+/// A reason of the program's own; empty if memory runs out.
+fn own_reason(alloc: Global, says: &[u8]) -> Reason {
+    let text = match Vec::from_slice(alloc, says) {
         Ok(text) => text,
         Err(_) => Vec::new(alloc),
     };
     Reason { text }
 }
 
-/// The path of a draft beside a file: `NAME.part.PID`.
-fn part_of(alloc: Global, whole: &str, id: u32) -> Result<String, AllocError> {
-    format!(in alloc; "{whole}.part.{id}")
+/// The reason where a draft that is written in place would be read again.
+fn unreadable(alloc: Global) -> Reason {
+    own_reason(alloc, b"it isn't a plain file, and so can't be read again")
+}
+
+/// Whether a name is one of some names.
+fn is_among(name: &str, names: &[String]) -> bool {
+    for other in names {
+        if other.as_str() == name {
+            return true;
+        }
+    }
+    false
+}
+
+/// Notes a name.
+fn note_name(alloc: Global, names: &mut Vec<String>, name: &str) -> Result<(), AllocError> {
+    names.push(String::from_str(alloc, name)?)?;
+    Ok(())
 }
 
 /// Out of memory, as an error of the system.
 fn no_memory() -> Error {
     Error::from(ErrorKind::OutOfMemory)
+}
+
+/// Opens a file that isn't a folder, and notes the name of a pipe.
+fn open_file(
+    rt: &HostRuntime,
+    alloc: Global,
+    pipes: &mut Vec<String>,
+    name: &str,
+) -> io::Result<File> {
+    let file = File::open(rt, name)?;
+    let found = file.metadata()?;
+    if found.is_dir() {
+        return Err(Error::from(ErrorKind::IsADirectory));
+    }
+    if found.file_type().is_fifo() && note_name(alloc, pipes, name).is_err() {
+        return Err(no_memory());
+    }
+    Ok(file)
+}
+
+/// Opens a file that is read. A pipe is opened once: what was read of it is gone, and where nobody writes to it any
+/// more, opening it again would take forever.
+fn open_input(
+    rt: &HostRuntime,
+    alloc: Global,
+    pipes: &mut Vec<String>,
+    name: &str,
+) -> Result<File, Reason> {
+    if is_among(name, pipes) {
+        return Err(own_reason(alloc, b"it is a pipe, and so can't be read again"));
+    }
+    match open_file(rt, alloc, pipes, name) {
+        Ok(file) => Ok(file),
+        Err(error) => Err(reason_of(alloc, &error)),
+    }
 }
 
 impl<'a, T: Tell> SystemFiles<'a, T> {
@@ -95,6 +151,7 @@ impl<'a, T: Tell> SystemFiles<'a, T> {
         SystemFiles {
             rt,
             tell,
+            pipes: Vec::new(rt.alloc()),
             unopened: 0,
             uncreated: 0,
             unkept: 0,
@@ -115,16 +172,33 @@ impl<'a, T: Tell> SystemFiles<'a, T> {
         }
     }
 
-    /// Opens what isn't a plain file, to be written in place.
-    fn open_in_place(&self, name: &str) -> io::Result<SystemDraft<'a, T>> {
-        let file = OpenOptions::new().write(true).open(self.rt, name)?;
-        Ok(SystemDraft {
-            port: OutputPort::new(file),
+    /// A draft to which nothing was written.
+    fn draft_to(&self, target: Target, paths: Option<Paths>) -> SystemDraft<'a, T> {
+        SystemDraft {
+            port: OutputPort::new(target),
             tell: self.tell,
             written: Written::nothing(),
             is_begun: false,
-            paths: None,
-        })
+            paths,
+        }
+    }
+
+    /// A standard stream, to be written in place.
+    fn standard(&self, stream: Stream) -> SystemDraft<'a, T> {
+        let target = match stream {
+            Stream::Output => Target::Output(self.rt.stdout()),
+            Stream::Errors => Target::Errors(self.rt.stderr()),
+        };
+        self.draft_to(target, None)
+    }
+
+    /// Opens what is written in place: a plain file that is open is written at its end.
+    fn open_in_place(&self, name: &str, is_plain: bool) -> io::Result<SystemDraft<'a, T>> {
+        let file = OpenOptions::new()
+            .write(true)
+            .append(is_plain)
+            .open(self.rt, name)?;
+        Ok(self.draft_to(Target::File(file), None))
     }
 
     /// Creates the file of a draft, with the mode of the file whose place it takes, if there is one. Where that mode
@@ -153,28 +227,27 @@ impl<'a, T: Tell> SystemFiles<'a, T> {
             return Err(no_memory());
         };
         let file = self.create_part(part.as_str(), mode)?;
-        Ok(SystemDraft {
-            port: OutputPort::new(file),
-            tell: self.tell,
-            written: Written::nothing(),
-            is_begun: false,
-            paths: Some(Paths { part, whole }),
-        })
+        Ok(self.draft_to(Target::File(file), Some(Paths { part, whole })))
     }
 
-    /// Creates a draft. An empty name leads nowhere.
-    fn create_draft(&self, alloc: Global, name: &str) -> io::Result<SystemDraft<'a, T>> {
+    /// Creates a draft of what has a name of its own. An empty name leads nowhere.
+    fn create_named(&self, alloc: Global, name: &str) -> io::Result<SystemDraft<'a, T>> {
         match fs::metadata(self.rt, name) {
-            Ok(found) if found.is_file() => self.create_beside(
-                alloc,
-                name,
-                Some(found.permissions()),
-            ),
-            Ok(_) => self.open_in_place(name),
+            Ok(found) if !found.is_file() => self.open_in_place(name, false),
+            Ok(_) if is_of_open_file(name) => self.open_in_place(name, true),
+            Ok(found) => self.create_beside(alloc, name, Some(found.permissions())),
             Err(error) if error.kind() == ErrorKind::NotFound && !name.is_empty() => {
                 self.create_beside(alloc, name, None)
             }
             Err(error) => Err(error),
+        }
+    }
+
+    /// Creates a draft.
+    fn create_draft(&self, alloc: Global, name: &str) -> io::Result<SystemDraft<'a, T>> {
+        match stream_of(name) {
+            Some(stream) => Ok(self.standard(stream)),
+            None => self.create_named(alloc, name),
         }
     }
 
@@ -203,15 +276,6 @@ impl<'a, T: Tell> SystemFiles<'a, T> {
             let _ = fs::remove_file(self.rt, paths.part.as_str());
         }
     }
-
-    /// Opens a file that isn't a folder.
-    fn open_input(&self, name: &str) -> io::Result<File> {
-        let file = File::open(self.rt, name)?;
-        if file.metadata()?.is_dir() {
-            return Err(Error::from(ErrorKind::IsADirectory));
-        }
-        Ok(file)
-    }
 }
 
 impl<'a, T: Tell> Outside for SystemFiles<'a, T> {
@@ -228,11 +292,11 @@ impl<'a, T: Tell> Outside for SystemFiles<'a, T> {
 
     #[tactic(auto, using(crate::proofs::Failures::failures))]
     fn open(&mut self, alloc: Global, name: &str) -> Result<Self::Input, Reason> {
-        match self.open_input(name) {
+        match open_input(self.rt, alloc, &mut self.pipes, name) {
             Ok(file) => Ok(WatchedSource::new(InputPort::new(file), self.tell)),
-            Err(error) => {
+            Err(reason) => {
                 self.unopened = self.unopened.saturating_add(1);
-                Err(reason_of(alloc, &error))
+                Err(reason)
             }
         }
     }

@@ -1,7 +1,8 @@
 //! The files of the system as `file_io::Outside`. It passes on what the system's calls do, and contracts don't know
 //! what it holds: a name is opened, a draft stands beside its name as `NAME.part.PID` and is renamed to it, and a kill
-//! leaves a file of that name. What isn't a plain file, as a device or a pipe, is written in place. `Terminal` shows
-//! people the progress of a run.
+//! leaves a file of that name. What isn't a plain file, as a device or a pipe, is written in place, and so is a file
+//! that is open, by a name as `/dev/fd/3`; `/dev/stdout` and `/dev/stderr` are the standard streams. A pipe is read
+//! once. `Terminal` shows people the progress of a run.
 //!
 //! ```text
 //! let terminal = Terminal::new(&rt);
@@ -10,7 +11,10 @@
 #![tactic(auto)]
 
 mod files;
+mod names;
+mod targets;
 mod terminal;
 
 pub use files::{SystemDraft, SystemFiles};
+pub use targets::Target;
 pub use terminal::Terminal;

@@ -7,5 +7,5 @@ returns-in-Ok g c = as_they_are (spelled c.args.words.now) _ _ _ _ _ c.guide_ask
     c.guide_asked.ensures
 
 pub returns-in-Err : goal.returns-in-Err
-returns-in-Err g c = by_formats (spelled c.args.words.now) _ _ _ _ _ c.serve_formats.result c.in-Err.ensures.exact
-    c.serve_formats.ensures
+returns-in-Err g c = by_formats (spelled c.args.words.now) _ _ _ _ _ c.serve_wishes.result c.in-Err.ensures.exact
+    c.serve_wishes.ensures

@@ -1,0 +1,2 @@
+pub mod AskedWishes
+pub mod WishRuns
