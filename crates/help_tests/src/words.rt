@@ -72,6 +72,14 @@ const WRONG: &[(&str, &str)] = &[
         "batsokemi: --levels takes tell, keep, or 0 to 1000000, and not 'x' (batsokemi help improve)\n",
     ),
     (
+        "improve --covers few a",
+        "batsokemi: --covers takes rows, least, and not 'few' (batsokemi help improve)\n",
+    ),
+    (
+        "improve --covers least a.bench",
+        "batsokemi: --covers goes with BLIF alone (batsokemi help improve)\n",
+    ),
+    (
         "formula --log l -",
         "batsokemi: with --log the certificate is read twice: it has to be a file (batsokemi help formula)\n",
     ),

@@ -279,6 +279,13 @@ const IMPROVE: &[Row] = &[
         default: Default::Nothing,
         says: b"tell: the report has the levels before and after; keep or N: no more levels than before, or than N",
     },
+    Row {
+        name: b"--covers",
+        value: b"COVERS",
+        allowed: Allowed::Words(&[b"rows", b"least"]),
+        default: Default::Word(b"rows"),
+        says: b"of BLIF: a table has its rows with 1; with least the one with 0 where three have 1",
+    },
     METHOD,
     Row {
         name: b"--conflicts",
