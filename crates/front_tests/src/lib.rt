@@ -5,5 +5,3 @@
 mod files;
 #[cfg(test)]
 mod layers;
-#[cfg(test)]
-mod runs;
