@@ -33,8 +33,8 @@ formats_of (Compare formats) = formats
 abbrev pub with_words : List (List ℕ) → FrontRun → FrontRun
 with_words words r = front_run words r.files r.source r.out r.note r.status
 
--- A run of words that may ask for formats: memory ran out before they were read; or the run is that of the words without
--- formats, with what is promised for the formats that they ask for.
+-- A run of words that may ask for formats: memory ran out before they were read; or the run is that of the words
+-- without formats, with what is promised for the formats that they ask for.
 abbrev pub IsFormatted : FrontRun → Type 0
 IsFormatted r =
     Reports memory Memory r ⊎

@@ -127,7 +127,7 @@ const CHOICE: Row = Row {
     value: b"METHOD",
     allowed: CHOICES,
     default: Default::Word(b"ssv"),
-    says: b"how a size becomes a formula; what a verdict means is the same; auto: by the tables, as where FILE is named",
+    says: b"how a size becomes a formula; what a verdict means is the same; auto: by the tables, as for a named FILE",
 };
 
 const MAX: Row = Row {

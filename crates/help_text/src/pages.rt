@@ -244,7 +244,7 @@ is u2: AND gates with complements; it is written in the form that was read, or a
   stopped            the limit of --rounds was reached first
 
 Nothing is written before the end. A smaller --cap ends sooner. With an --effort of 0 there is one stage of
-walks, and none below 6 gates.
+walks, and none below 6 gates where levels aren't limited.
 
 ";
 
