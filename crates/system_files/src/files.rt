@@ -4,13 +4,14 @@ ghost use Rattle.file_io.specs.Names.{Begins};
 ghost use Rattle.system_files.specs.Drafts.{draft_faults};
 ghost use Rattle.system_files.specs.Counts.{files_faults};
 
-use crate::names::{Stream, is_of_open_file, part_of, stream_of};
+use crate::names::{Stream, descriptor_of, led_to, part_of, stream_of};
+use crate::nodes::{Node, is_pipe_among, stream_to};
 use crate::targets::Target;
 use file_io::{Outside, Reason};
 use port_io::{Failed, InputPort, OutputPort, Sink};
 use progress::{Progress, Tell, WatchedSource, Written};
-use std::alloc::{AllocError, Global};
-use std::fs::{File, OpenOptions, Permissions};
+use std::alloc::Global;
+use std::fs::{File, Metadata, OpenOptions, Permissions};
 use std::io::{Error, ErrorKind};
 use std::os::unix::fs::FileTypeExt;
 use std::{fs, io, process};
@@ -20,7 +21,7 @@ use std::{fs, io, process};
 pub struct SystemFiles<'a, T> {
     rt: &'a HostRuntime,
     tell: &'a T,
-    pipes: Vec<String>,
+    pipes: Vec<Node>,
     unopened: u64,
     uncreated: u64,
     unkept: u64,
@@ -89,57 +90,64 @@ fn unreadable(alloc: Global) -> Reason {
     own_reason(alloc, b"it isn't a plain file, and so can't be read again")
 }
 
-/// Whether a name is one of some names.
-fn is_among(name: &str, names: &[String]) -> bool {
-    for other in names {
-        if other.as_str() == name {
-            return true;
-        }
-    }
-    false
-}
-
-/// Notes a name.
-fn note_name(alloc: Global, names: &mut Vec<String>, name: &str) -> Result<(), AllocError> {
-    names.push(String::from_str(alloc, name)?)?;
-    Ok(())
-}
-
 /// Out of memory, as an error of the system.
 fn no_memory() -> Error {
     Error::from(ErrorKind::OutOfMemory)
 }
 
-/// Opens a file that isn't a folder, and notes the name of a pipe.
-fn open_file(
-    rt: &HostRuntime,
-    alloc: Global,
-    pipes: &mut Vec<String>,
-    name: &str,
-) -> io::Result<File> {
+/// The most links that lead from one to the next.
+const MOST_LINKS: u32 = 40;
+
+/// The path to which a path leads, if that is a link.
+fn next_of(rt: &HostRuntime, alloc: Global, path: &str) -> io::Result<Option<String>> {
+    let Ok(to) = fs::read_link(rt, path) else {
+        return Ok(None);
+    };
+    match led_to(alloc, path, to.as_str()) {
+        Ok(next) => Ok(Some(next)),
+        Err(_) => Err(no_memory()),
+    }
+}
+
+/// The path at the end of the links of a name that leads to no file yet.
+fn end_of(rt: &HostRuntime, alloc: Global, name: &str) -> io::Result<String> {
+    let Ok(mut path) = String::from_str(alloc, name) else {
+        return Err(no_memory());
+    };
+    for _link in 0..MOST_LINKS {
+        let Some(next) = next_of(rt, alloc, path.as_str())? else {
+            return Ok(path);
+        };
+        path = next;
+    }
+    Ok(path)
+}
+
+/// Opens a file that isn't a folder, and notes a pipe.
+fn open_file(rt: &HostRuntime, pipes: &mut Vec<Node>, name: &str) -> io::Result<File> {
     let file = File::open(rt, name)?;
     let found = file.metadata()?;
     if found.is_dir() {
         return Err(Error::from(ErrorKind::IsADirectory));
     }
-    if found.file_type().is_fifo() && note_name(alloc, pipes, name).is_err() {
+    if found.file_type().is_fifo() && pipes.push(Node::of(&found)).is_err() {
         return Err(no_memory());
     }
     Ok(file)
 }
 
-/// Opens a file that is read. A pipe is opened once: what was read of it is gone, and where nobody writes to it any
-/// more, opening it again would take forever.
+/// Opens a file that is read. A pipe is opened once, whatever its names: what was read of it is gone, and where nobody
+/// writes to it any more, opening it again would take forever.
 fn open_input(
     rt: &HostRuntime,
     alloc: Global,
-    pipes: &mut Vec<String>,
+    pipes: &mut Vec<Node>,
     name: &str,
 ) -> Result<File, Reason> {
-    if is_among(name, pipes) {
+    if is_pipe_among(rt, name, pipes) {
         return Err(own_reason(alloc, b"it is a pipe, and so can't be read again"));
     }
-    match open_file(rt, alloc, pipes, name) {
+    match open_file(rt, pipes, name) {
         Ok(file) => Ok(file),
         Err(error) => Err(reason_of(alloc, &error)),
     }
@@ -158,16 +166,11 @@ impl<'a, T: Tell> SystemFiles<'a, T> {
         }
     }
 
-    /// The path of the file that a name leads to, at the end of its links; the name itself if there is no file.
+    /// The path of the file that a name leads to, at the end of its links, also where there is no file yet.
     fn whole_of(&self, alloc: Global, name: &str) -> io::Result<String> {
         match fs::canonicalize(self.rt, name) {
             Ok(path) => Ok(path.into_string()),
-            Err(error) if error.kind() == ErrorKind::NotFound => match String::from_str(
-                alloc, name,
-            ) {
-                Ok(path) => Ok(path),
-                Err(_) => Err(no_memory()),
-            },
+            Err(error) if error.kind() == ErrorKind::NotFound => end_of(self.rt, alloc, name),
             Err(error) => Err(error),
         }
     }
@@ -230,12 +233,29 @@ impl<'a, T: Tell> SystemFiles<'a, T> {
         Ok(self.draft_to(Target::File(file), Some(Paths { part, whole })))
     }
 
+    /// Creates a draft of what a name leads to, which was found.
+    fn create_of(
+        &self,
+        alloc: Global,
+        name: &str,
+        found: &Metadata,
+    ) -> io::Result<SystemDraft<'a, T>> {
+        if let Some(stream) = stream_to(self.rt, found) {
+            return Ok(self.standard(stream));
+        }
+        if !found.is_file() {
+            return self.open_in_place(name, false);
+        }
+        match descriptor_of(name, process::id(self.rt.process())) {
+            Some(_) => self.open_in_place(name, true),
+            None => self.create_beside(alloc, name, Some(found.permissions())),
+        }
+    }
+
     /// Creates a draft of what has a name of its own. An empty name leads nowhere.
     fn create_named(&self, alloc: Global, name: &str) -> io::Result<SystemDraft<'a, T>> {
         match fs::metadata(self.rt, name) {
-            Ok(found) if !found.is_file() => self.open_in_place(name, false),
-            Ok(_) if is_of_open_file(name) => self.open_in_place(name, true),
-            Ok(found) => self.create_beside(alloc, name, Some(found.permissions())),
+            Ok(found) => self.create_of(alloc, name, &found),
             Err(error) if error.kind() == ErrorKind::NotFound && !name.is_empty() => {
                 self.create_beside(alloc, name, None)
             }

@@ -12,6 +12,7 @@
 
 mod files;
 mod names;
+mod nodes;
 mod targets;
 mod terminal;
 
