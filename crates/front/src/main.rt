@@ -14,7 +14,7 @@ use progress::{WatchedSink, WatchedSource};
 use std::io::IsTerminal;
 use std::process::ExitCode;
 use std::{env, io};
-use system_files::{SystemFiles, Terminal};
+use system_files::{OpenAtStart, SystemFiles, Terminal};
 
 /// What people are told of a word that isn't UTF-8.
 const NOT_UTF8: &str =
@@ -38,7 +38,21 @@ fn report_no_words(rt: &HostRuntime, status: Status) {
     };
 }
 
+/// The name of the file that gets the certificate; empty if no word names one.
+fn certificate_of(words: &[String]) -> &str {
+    let mut is_next = false;
+    for word in words {
+        let word = word.as_str();
+        if is_next {
+            return word;
+        }
+        is_next = word == "--certificate";
+    }
+    ""
+}
+
 fn main(rt: HostRuntime) -> ExitCode {
+    let start = OpenAtStart::new(&rt);
     let standing = Standing::new(&rt);
     let words = match words_of(&rt) {
         Ok(words) => words,
@@ -57,7 +71,8 @@ fn main(rt: HostRuntime) -> ExitCode {
     );
     let errors = WatchedSink::new(OutputPort::new(rt.stderr()), &terminal, true);
     let mut note = Retelling::new(rt.alloc(), errors);
-    let mut files = SystemFiles::new(&rt, &terminal);
+    let certificate = certificate_of(&words);
+    let mut files = SystemFiles::new(&rt, &terminal, start, certificate);
     let reader = Rereading::new(&rt);
     let status = serve(
         rt.alloc(),

@@ -6,6 +6,7 @@ ghost use Rattle.system_files.specs.Counts.{files_faults};
 
 use crate::names::{Stream, descriptor_of, led_to, part_of, stream_of};
 use crate::nodes::{Node, is_pipe_among, stream_to};
+use crate::numbers::OpenAtStart;
 use crate::targets::Target;
 use file_io::{Outside, Reason};
 use port_io::{Failed, InputPort, OutputPort, Sink};
@@ -21,6 +22,8 @@ use std::{fs, io, process};
 pub struct SystemFiles<'a, T> {
     rt: &'a HostRuntime,
     tell: &'a T,
+    start: OpenAtStart,
+    certificate: &'a str,
     pipes: Vec<Node>,
     unopened: u64,
     uncreated: u64,
@@ -35,6 +38,7 @@ pub struct SystemDraft<'a, T> {
     tell: &'a T,
     written: Written,
     is_begun: bool,
+    is_screen: bool,
     paths: Option<Paths>,
 }
 
@@ -45,6 +49,20 @@ struct Paths {
     whole: String,
 }
 
+/// Tells of text that is written next where people see the progress.
+fn tell_before<T: Tell>(tell: &T, is_screen: bool) {
+    if is_screen {
+        tell.tell(Progress::Text);
+    }
+}
+
+/// Tells how much was written, except where people see it.
+fn tell_after<T: Tell>(tell: &T, is_screen: bool, written: Written) {
+    if !is_screen {
+        tell.tell(Progress::Written(written));
+    }
+}
+
 impl<'a, T: Tell> Sink for SystemDraft<'a, T> {
     ghost written = { λ _. None };
 
@@ -52,6 +70,7 @@ impl<'a, T: Tell> Sink for SystemDraft<'a, T> {
 
     #[tactic(auto, unfolding(port_io::specs::Bytes::appended))]
     fn write(&mut self, piece: &[u8]) -> Result<usize, Failed> {
+        tell_before(self.tell, self.is_screen);
         match self.port.write(piece) {
             Ok(count) => {
                 if count > 0 {
@@ -59,7 +78,7 @@ impl<'a, T: Tell> Sink for SystemDraft<'a, T> {
                 }
                 let (part, _) = piece.split_at(count);
                 self.written = self.written.and(part);
-                self.tell.tell(Progress::Written(self.written));
+                tell_after(self.tell, self.is_screen, self.written);
                 Ok(count)
             }
             Err(Failed) => Err(Failed),
@@ -87,7 +106,10 @@ fn own_reason(alloc: Global, says: &[u8]) -> Reason {
 
 /// The reason where a draft that is written in place would be read again.
 fn unreadable(alloc: Global) -> Reason {
-    own_reason(alloc, b"it isn't a plain file, and so can't be read again")
+    own_reason(
+        alloc,
+        b"it isn't a plain file by its own name, and so can't be read again",
+    )
 }
 
 /// Out of memory, as an error of the system.
@@ -136,6 +158,14 @@ fn open_file(rt: &HostRuntime, pipes: &mut Vec<Node>, name: &str) -> io::Result<
     Ok(file)
 }
 
+/// The reason where an open file is named that the program wasn't started with.
+fn unknown(alloc: Global) -> Reason {
+    own_reason(
+        alloc,
+        b"the program was started without an open file of this number",
+    )
+}
+
 /// Opens a file that is read. A pipe is opened once, whatever its names: what was read of it is gone, and where nobody
 /// writes to it any more, opening it again would take forever.
 fn open_input(
@@ -143,7 +173,11 @@ fn open_input(
     alloc: Global,
     pipes: &mut Vec<Node>,
     name: &str,
+    is_known: bool,
 ) -> Result<File, Reason> {
+    if !is_known {
+        return Err(unknown(alloc));
+    }
     if is_pipe_among(rt, name, pipes) {
         return Err(own_reason(alloc, b"it is a pipe, and so can't be read again"));
     }
@@ -154,15 +188,26 @@ fn open_input(
 }
 
 impl<'a, T: Tell> SystemFiles<'a, T> {
-    /// The files that the system of a run has, and who is told of it.
-    pub fn new(rt: &'a HostRuntime, tell: &'a T) -> Self {
+    /// The files that the system of a run has, who is told of it, which files were open before the run opened any, and
+    /// the name of the certificate, which is read again; empty if there is none.
+    pub fn new(rt: &'a HostRuntime, tell: &'a T, start: OpenAtStart, certificate: &'a str) -> Self {
         SystemFiles {
             rt,
             tell,
+            start,
+            certificate,
             pipes: Vec::new(rt.alloc()),
             unopened: 0,
             uncreated: 0,
             unkept: 0,
+        }
+    }
+
+    /// Whether a name is one of an open file that the program wasn't started with: its own files have no such names.
+    fn is_unknown(&self, name: &str) -> bool {
+        match descriptor_of(name, process::id(self.rt.process())) {
+            Some(open) => open.is_own && self.start.is_closed(open.number),
+            None => false,
         }
     }
 
@@ -177,11 +222,13 @@ impl<'a, T: Tell> SystemFiles<'a, T> {
 
     /// A draft to which nothing was written.
     fn draft_to(&self, target: Target, paths: Option<Paths>) -> SystemDraft<'a, T> {
+        let is_screen = target.is_screen();
         SystemDraft {
             port: OutputPort::new(target),
             tell: self.tell,
             written: Written::nothing(),
             is_begun: false,
+            is_screen,
             paths,
         }
     }
@@ -263,11 +310,25 @@ impl<'a, T: Tell> SystemFiles<'a, T> {
         }
     }
 
-    /// Creates a draft.
-    fn create_draft(&self, alloc: Global, name: &str) -> io::Result<SystemDraft<'a, T>> {
+    /// Creates a draft, in place or beside its name.
+    fn create_either(&self, alloc: Global, name: &str) -> io::Result<SystemDraft<'a, T>> {
         match stream_of(name) {
             Some(stream) => Ok(self.standard(stream)),
             None => self.create_named(alloc, name),
+        }
+    }
+
+    /// Creates a draft. That of a certificate is read again, and so can't be written in place.
+    fn create_draft(&self, alloc: Global, name: &str) -> Result<SystemDraft<'a, T>, Reason> {
+        if self.is_unknown(name) {
+            return Err(unknown(alloc));
+        }
+        match self.create_either(alloc, name) {
+            Ok(draft) if draft.paths.is_none() && name == self.certificate => {
+                Err(unreadable(alloc))
+            }
+            Ok(draft) => Ok(draft),
+            Err(error) => Err(reason_of(alloc, &error)),
         }
     }
 
@@ -312,7 +373,8 @@ impl<'a, T: Tell> Outside for SystemFiles<'a, T> {
 
     #[tactic(auto, using(crate::proofs::Failures::failures))]
     fn open(&mut self, alloc: Global, name: &str) -> Result<Self::Input, Reason> {
-        match open_input(self.rt, alloc, &mut self.pipes, name) {
+        let is_known = !self.is_unknown(name);
+        match open_input(self.rt, alloc, &mut self.pipes, name, is_known) {
             Ok(file) => Ok(WatchedSource::new(InputPort::new(file), self.tell)),
             Err(reason) => {
                 self.unopened = self.unopened.saturating_add(1);
@@ -325,9 +387,9 @@ impl<'a, T: Tell> Outside for SystemFiles<'a, T> {
     fn create(&mut self, alloc: Global, name: &str) -> Result<SystemDraft<'a, T>, Reason> {
         match self.create_draft(alloc, name) {
             Ok(draft) => Ok(draft),
-            Err(error) => {
+            Err(reason) => {
                 self.uncreated = self.uncreated.saturating_add(1);
-                Err(reason_of(alloc, &error))
+                Err(reason)
             }
         }
     }

@@ -2,7 +2,7 @@
 
 use std::fs::File;
 use std::io;
-use std::io::{Stderr, Stdout, Write};
+use std::io::{IsTerminal, Stderr, Stdout, Write};
 
 /// A file that was opened or created, or a standard stream itself: that shares its place in a file with whoever
 /// started the program, where a file that is opened by its name would be written from a place of its own.
@@ -14,6 +14,17 @@ pub enum Target {
     Output(Stdout),
     /// The standard error.
     Errors(Stderr),
+}
+
+impl Target {
+    /// Whether it is a terminal, on which people see the progress too.
+    pub(crate) fn is_screen(&self) -> bool {
+        match self {
+            Target::File(file) => file.is_terminal(),
+            Target::Output(stream) => stream.is_terminal(),
+            Target::Errors(stream) => stream.is_terminal(),
+        }
+    }
 }
 
 impl Write for Target {
