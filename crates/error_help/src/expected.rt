@@ -151,7 +151,7 @@ pub(crate) fn most_bytes(subject: Subject) -> usize {
 pub(crate) fn after_most_bytes(subject: Subject) -> &'static [u8] {
     match subject {
         Subject::Certificate | Subject::Depth =>
-            b" bytes are read, unless --most-bytes says otherwise",
+            b" bytes are read; recheck --most-bytes N reads more",
         _ => b" bytes are read",
     }
 }

@@ -79,7 +79,7 @@ pub(crate) fn push_unnamed(
     if text.is_empty() {
         return Ok(());
     }
-    text.extend_from_slice(b": writing failed; is there space left?\n")
+    text.extend_from_slice(b": writing failed: is there space left, or was the reader closed?\n")
 }
 
 /// Whether both netlists are in BLIF.
