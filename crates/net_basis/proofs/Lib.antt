@@ -5,4 +5,3 @@ pub mod Closures
 pub mod Recipes
 pub mod Placements
 pub mod Conversions
-pub mod Lengths

@@ -1,5 +1,4 @@
-//! Tests of netlists that are improved by wishes: the levels before and after, the covers, and
-//! netlists over a basis.
+//! Tests of netlists that are improved by wishes: the levels before and after, and the covers.
 #![tactic(auto)]
 
 #[cfg(test)]

@@ -1,2 +1,0 @@
-pub mod Based
-pub mod BasedLaws
