@@ -2,6 +2,7 @@
 
 use file_io::Call;
 use frame_tests::{MemoryFile, MemoryFiles};
+use front_app::Rereads;
 use std::alloc::{AllocError, Global};
 
 /// A certificate of conjunction.
@@ -9,17 +10,13 @@ const CERTIFICATE: &str =
     "chains 1\ninputs 2\n0001\nbasis all\nmethod ssv\nconflicts 100000\nmax 16\nsize 0\n\
     refuted\ndone\nchain 1\nx3 x1 x2 0001\nout x3\nminimum 1\nend\n";
 
-/// A certificate by `strong-fence`, whose size 3 ends with its first open fence.
-const OPEN: &str =
-    "chains 1\ninputs 3\n00010111\nbasis all\nmethod strong-fence\nconflicts 1\nmax 3\nsize 0\n\
-    fence\nrefuted\ndone\nsize 1\nfence 1\nrefuted\n\
-    202 0 1 120 121 122 125 4 5 183 186 188 10 0\ndone\nsize 2\nfence 1 1\nopen\n\
-    415 -1 0 2 284 0\ndone\nsize 3\nfence 1 1 1\nopen\n700 -1 0 2 504 0\ndone\nopen 2\nend\n";
-
 /// The conjunction of two inputs, and the constant 0 of them.
 const CONJUNCTION: &str = ".inputs a b\n.outputs y\n.names a b y\n11 1\n.end\n";
 
 const ZERO: &str = ".inputs a b\n.outputs y\n.names y\n.end\n";
+
+/// The same conjunction in AIGER.
+const AIGER: &str = "aag 3 2 0 1 1\n2\n4\n6\n6 4 2\n";
 
 /// A table with a fault.
 const BAD: &str = "inputs 2\n01x1\n";
@@ -30,12 +27,11 @@ const FILES: &[(&str, &str)] = &[
     ("out", "old"),
     ("tables", "inputs 2\n0001\n"),
     ("bad", BAD),
-    ("pipe", BAD),
     ("minimum", CERTIFICATE),
-    ("open", OPEN),
     ("a.blif", CONJUNCTION),
     ("b.blif", ZERO),
-    ("a.aag", "aag 3 2 0 1 1\n2\n4\n6\n6 4 2\n"),
+    ("a.aag", AIGER),
+    ("x.bench", AIGER),
 ];
 
 /// The same in memory.
@@ -60,4 +56,27 @@ pub fn words_of(alloc: Global, line: &str) -> Result<Vec<String>, AllocError> {
         words.push(String::from_str(alloc, word)?)?;
     }
     Ok(words)
+}
+
+/// The text of a file.
+fn text_of(name: &str) -> Option<&'static str> {
+    for &(other, text) in FILES {
+        if other == name {
+            return Some(text);
+        }
+    }
+    None
+}
+
+/// Reads files again, as they were before a run.
+#[derive(Drop)]
+pub struct Known;
+
+impl Rereads for Known {
+    fn reread(&self, alloc: Global, name: &str) -> Option<Vec<u8>> {
+        match Vec::from_slice(alloc, text_of(name)?.as_bytes()) {
+            Ok(bytes) => Some(bytes),
+            Err(_) => None,
+        }
+    }
 }
