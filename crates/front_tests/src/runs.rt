@@ -114,7 +114,7 @@ const ROWS: &[Row] = &[
         room: 3,
         status: 6,
         out: "",
-        note: "out: writing failed; is there space left?",
+        note: "out: writing failed: is there space left",
         held: "old",
     },
     Row {
