@@ -120,10 +120,17 @@ fn no_memory() -> Error {
 /// The most links that lead from one to the next.
 const MOST_LINKS: u32 = 40;
 
+/// Whether reading a link failed since the path is none, or leads to nothing.
+fn is_no_link(kind: ErrorKind) -> bool {
+    kind == ErrorKind::InvalidInput || kind == ErrorKind::NotFound
+}
+
 /// The path to which a path leads, if that is a link.
 fn next_of(rt: &HostRuntime, alloc: Global, path: &str) -> io::Result<Option<String>> {
-    let Ok(to) = fs::read_link(rt, path) else {
-        return Ok(None);
+    let to = match fs::read_link(rt, path) {
+        Ok(to) => to,
+        Err(error) if is_no_link(error.kind()) => return Ok(None),
+        Err(error) => return Err(error),
     };
     match led_to(alloc, path, to.as_str()) {
         Ok(next) => Ok(Some(next)),
@@ -318,10 +325,25 @@ impl<'a, T: Tell> SystemFiles<'a, T> {
         }
     }
 
-    /// Creates a draft. That of a certificate is read again, and so can't be written in place.
+    /// Whether a name is that of the certificate, and leads to what isn't a plain file.
+    fn is_odd_certificate(&self, name: &str) -> bool {
+        if name != self.certificate {
+            return false;
+        }
+        match fs::metadata(self.rt, name) {
+            Ok(found) => !found.is_file(),
+            Err(_) => false,
+        }
+    }
+
+    /// Creates a draft. That of a certificate is read again, and so can't be written in place: a pipe isn't opened at
+    /// all, which would wait for a reader.
     fn create_draft(&self, alloc: Global, name: &str) -> Result<SystemDraft<'a, T>, Reason> {
         if self.is_unknown(name) {
             return Err(unknown(alloc));
+        }
+        if self.is_odd_certificate(name) {
+            return Err(unreadable(alloc));
         }
         match self.create_either(alloc, name) {
             Ok(draft) if draft.paths.is_none() && name == self.certificate => {
