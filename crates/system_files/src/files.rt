@@ -4,7 +4,8 @@ ghost use Rattle.file_io.specs.Names.{Begins};
 ghost use Rattle.system_files.specs.Drafts.{draft_faults};
 ghost use Rattle.system_files.specs.Counts.{files_faults};
 
-use crate::names::{Stream, descriptor_of, led_to, part_of, stream_of};
+use crate::links::{end_of, no_memory};
+use crate::names::{Stream, descriptor_of, part_of, stream_of};
 use crate::nodes::{Node, is_pipe_among, stream_to};
 use crate::numbers::OpenAtStart;
 use crate::targets::Target;
@@ -110,46 +111,6 @@ fn unreadable(alloc: Global) -> Reason {
         alloc,
         b"it isn't a plain file by its own name, and so can't be read again",
     )
-}
-
-/// Out of memory, as an error of the system.
-fn no_memory() -> Error {
-    Error::from(ErrorKind::OutOfMemory)
-}
-
-/// The most links that lead from one to the next.
-const MOST_LINKS: u32 = 40;
-
-/// Whether reading a link failed since the path is none, or leads to nothing.
-fn is_no_link(kind: ErrorKind) -> bool {
-    kind == ErrorKind::InvalidInput || kind == ErrorKind::NotFound
-}
-
-/// The path to which a path leads, if that is a link.
-fn next_of(rt: &HostRuntime, alloc: Global, path: &str) -> io::Result<Option<String>> {
-    let to = match fs::read_link(rt, path) {
-        Ok(to) => to,
-        Err(error) if is_no_link(error.kind()) => return Ok(None),
-        Err(error) => return Err(error),
-    };
-    match led_to(alloc, path, to.as_str()) {
-        Ok(next) => Ok(Some(next)),
-        Err(_) => Err(no_memory()),
-    }
-}
-
-/// The path at the end of the links of a name that leads to no file yet.
-fn end_of(rt: &HostRuntime, alloc: Global, name: &str) -> io::Result<String> {
-    let Ok(mut path) = String::from_str(alloc, name) else {
-        return Err(no_memory());
-    };
-    for _link in 0..MOST_LINKS {
-        let Some(next) = next_of(rt, alloc, path.as_str())? else {
-            return Ok(path);
-        };
-        path = next;
-    }
-    Ok(path)
 }
 
 /// Opens a file that isn't a folder, and notes a pipe.

@@ -11,6 +11,7 @@
 #![tactic(auto)]
 
 mod files;
+mod links;
 mod names;
 mod nodes;
 mod numbers;
