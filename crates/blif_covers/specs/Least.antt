@@ -1,4 +1,4 @@
--- Documents in which each table is given by its rows with 1 or by those with 0, whichever are fewer.
+-- Documents in which a table of two inputs with three rows of 1 is given by its one row of 0.
 use Rattle.std.specs.Prelude.{ℕ, Bool, true, false, not, ◌&&◌, ◌==◌, if◌then◌else◌, List, [], ◌∷◌, ◌++◌, length, map}
 use Rattle.net_theory.specs.Cover.{Cover}
 use Rattle.net_theory.specs.Document.{has, Table, Document}

@@ -1,6 +1,6 @@
-//! BLIF with the least covers: each table by its rows with 1 or by its rows with 0, whichever are fewer. The writer of
-//! `blif_core` lists the rows with 1, so OR has three rows, of which readers of other programs make three ANDs. Here it
-//! is `00 0`.
+//! BLIF with the least covers: each table whose rows with 1 are three of four is given by its one row with 0. The writer
+//! of `blif_core` lists the rows with 1, so OR has three rows, of which readers of other programs make three ANDs. Here
+//! it is `00 0`.
 //!
 //! What is proved: such a text is read back as a document that is equivalent to the circuit, with the same cost
 //! (`least_is_a_format`). The definitions are in `specs/Least`.

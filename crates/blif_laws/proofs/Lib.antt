@@ -2,6 +2,7 @@ pub mod FreeNames
 pub mod GivenNames
 pub mod WordLines
 pub mod Saying
+pub mod TableLines
 pub mod Spelled
 pub mod GateTables
 pub mod CircuitNames

@@ -28,8 +28,8 @@ use Rattle.blif_laws.proofs.WordLines.{line_of}
 use Rattle.blif_laws.proofs.Saying.{WordLine, line, line_text, IsLine, said_by, lines_said, Says, says_none, says_then}
 use Rattle.blif_laws.proofs.Saying.{Has, model_line, model_alone, model_said, rest_lines, list_said, add_inputs}
 use Rattle.blif_laws.proofs.Saying.{add_outputs, add_clocks, adds_inputs, adds_outputs, adds_clocks, control_words}
-use Rattle.blif_laws.proofs.Saying.{init_words, latch_words, latch_line, add_latches, latches_said, names_line}
-use Rattle.blif_laws.proofs.Saying.{row_line, table_lines, add_tables, tables_said, end_line, end_said}
+use Rattle.blif_laws.proofs.Saying.{init_words, latch_words, latch_line, add_latches, latches_said, end_line, end_said}
+use Rattle.blif_laws.proofs.TableLines.{names_line, row_line, table_lines, add_tables, tables_said}
 use Rattle.net_theory.specs.Limits.{most_table_inputs, most_name_bytes}
 
 -- ---- its lines
