@@ -20,12 +20,17 @@ use Rattle.net_formats.specs.Formats.{format_of}
 use Rattle.settings.specs.declared.improve.ImproveSettings.{ImproveSettings}
 use Rattle.wish_names.specs.declared.wishes.Wishes.{Wishes}
 use Rattle.equiv_run.specs.Two.{is_bare}
+use Rattle.improve_wishes.specs.declared.texts.WishedText.{WishedText}
+use Rattle.improve_wishes.specs.declared.texts.WishedText.TheVariants as texts
+use Rattle.improve_wishes.specs.Texts.{IsWishedText}
 use Rattle.improve_wishes.specs.Wished.{IsWished}
 use Rattle.frame_core.specs.Reported.{Reply, Refusal}
 use Rattle.frame_core.specs.Task.{HasReply, Refuses}
 use Rattle.cmd_improve.specs.ImproveReport.{improve_reply, improve_refusal}
 use Rattle.cmd_improve.specs.NamedReport.{Empty, Faulty, empty_refusal}
-use Rattle.cmd_wishes.specs.WishReport.{wants_binary, plain_text, wished_format, IsInForm, wished_task}
+use Rattle.cmd_wishes.specs.WishReport.{wants_binary, Improved, CannotExpress, TooLarge, wished_format, IsAnswer}
+use Rattle.cmd_wishes.specs.WishReport.{wished_task}
+use Rattle.cmd_wishes.specs.Replies.{StandsFor, IsReplyOf}
 
 -- ---- the text of an improved netlist
 
@@ -41,16 +46,15 @@ plain : (settings : ImproveSettings) (w : Wishes) (bytes text report : List ℕ)
     IsWished aiger_forms settings w bytes text report → is_binary text ≡ false
 plain settings w bytes text report is = ap is_binary is.spelled ∙ circuit_plain is.circuit
 
-wished_as : (format : NetFormat) (settings : ImproveSettings) (w : Wishes) (bytes text answer report : List ℕ)
+answered : (format : NetFormat) (settings : ImproveSettings) (w : Wishes) (bytes text answer report : List ℕ)
     (binary : Bool) → IsWished (wished_format format w) settings w bytes text report →
     binary ≡ wants_binary format w.form bytes → ascii_in answer ≡ ascii_in text → (binary ≡ false → answer ≡ text) →
-    IsWished (wished_format format w) settings w bytes (plain_text format answer) report ×
-    IsInForm format w.form bytes answer
-wished_as Blif settings w bytes text answer report binary is wants stands same =
+    IsAnswer format settings w bytes (Improved (record { text = answer; report = report }))
+answered Blif settings w bytes text answer report binary is wants stands same =
     (subst (λ (t : List ℕ). IsWished (wished_format Blif w) settings w bytes t report) (sym (same wants)) is, tt)
-wished_as Bench settings w bytes text answer report binary is wants stands same =
+answered Bench settings w bytes text answer report binary is wants stands same =
     (subst (λ (t : List ℕ). IsWished (format_of Bench) settings w bytes t report) (sym (same wants)) is, tt)
-wished_as Aiger settings w bytes text answer report binary is wants stands same =
+answered Aiger settings w bytes text answer report binary is wants stands same =
     let in_ascii = plain settings w bytes text report is in (
       subst (λ (t : List ℕ). IsWished aiger_forms settings w bytes t report)
           (sym (stands ∙ ascii_plain text in_ascii)) is,
@@ -59,25 +63,39 @@ wished_as Aiger settings w bytes text answer report binary is wants stands same 
 
 -- ---- replies
 
-pub replied : (format : NetFormat) (settings : ImproveSettings) (w : Wishes)
-    (bytes text report answer answer_report : List ℕ) (binary : Bool) (reply : Reply) → length bytes ≤ most_of_netlist →
-    is_bare bytes ≡ false → IsWished (wished_format format w) settings w bytes text report →
-    binary ≡ wants_binary format w.form bytes → ascii_in answer ≡ ascii_in text → (binary ≡ false → answer ≡ text) →
-    answer_report ≡ report → reply ≡ improve_reply (record { text = answer; report = answer_report }) →
-    HasReply (wished_task format settings w) bytes reply
-replied format settings w bytes text report answer answer_report binary reply within said is wants stands same told shown =
-    let both = wished_as format settings w bytes text answer report binary is wants stands same in
-    record {
-      answer = record { text = answer; report = answer_report };
-      has = record {
-        within = within;
-        said = said;
-        wished = subst (λ (r : List ℕ). IsWished (wished_format format w) settings w bytes
-            (plain_text format answer) r) (sym told) both.0;
-        form = both.1;
-      };
-      is = shown;
-    }
+pub replied : (format : NetFormat) (settings : ImproveSettings) (w : Wishes) (bytes : List ℕ) (wished : WishedText)
+    (binary : Bool) (reply : Reply) → length bytes ≤ most_of_netlist → is_bare bytes ≡ false →
+    IsWishedText (wished_format format w) settings w bytes wished → binary ≡ wants_binary format w.form bytes →
+    IsReplyOf binary wished reply → HasReply (wished_task format settings w) bytes reply
+replied format settings w bytes (texts.Text i) binary reply within said is wants of = record {
+  answer = Improved (record { text = of.answer; report = i.report.items });
+  has = record {
+    within = within;
+    said = said;
+    is = answered format settings w bytes i.text.items of.answer i.report.items binary is wants of.stands of.same;
+  };
+  is = of.is;
+}
+replied format settings w bytes (texts.Cannot name) binary reply within said is wants of = record {
+  answer = CannotExpress name.items;
+  has = record { within = within; said = said; is = is };
+  is = of;
+}
+replied format settings w bytes texts.TooMany binary reply within said is wants of = record {
+  answer = TooLarge;
+  has = record { within = within; said = said; is = is };
+  is = of;
+}
+
+pub text_replied : (binary : Bool) (text report answer answer_report : List ℕ) (reply : Reply) →
+    ascii_in answer ≡ ascii_in text → (binary ≡ false → answer ≡ text) → answer_report ≡ report →
+    reply ≡ improve_reply (record { text = answer; report = answer_report }) → StandsFor binary text report reply
+text_replied binary text report answer answer_report reply stands same told is = record {
+  answer = answer;
+  stands = stands;
+  same = same;
+  is = is ∙ ap (λ (r : List ℕ). improve_reply (record { text = answer; report = r })) told;
+}
 
 pub refuses : (format : NetFormat) (settings : ImproveSettings) (w : Wishes) (bytes : List ℕ) (e : NetError)
     (refusal : Refusal) → length bytes ≤ most_of_netlist → is_bare bytes ≡ false → (e ≡ nets.Memory → ⊥) →
@@ -98,4 +116,4 @@ refuses_bare format settings w bytes refusal within bare is = record {
   is = is;
 }
 
-pub ruleset answering = (common_steps, replied, refuses, refuses_bare)
+pub ruleset answering = (common_steps, replied, text_replied, refuses, refuses_bare)

@@ -6,16 +6,17 @@ ghost use Rattle.net_formats.specs.Formats.{format_of};
 ghost use Rattle.settings.specs.Improve.{IsInRange};
 ghost use Rattle.equiv_run.specs.Two.{is_bare as is_bare_of};
 ghost use Rattle.improve_windows.specs.Improving.{FitsFormat};
-ghost use Rattle.improve_wishes.specs.Wished.{IsWished};
+ghost use Rattle.improve_wishes.specs.Texts.{IsWishedText};
 ghost use Rattle.frame_core.specs.Views.{Judges};
 ghost use Rattle.cmd_wishes.specs.WishReport.{wished_format, wished_task};
 
-use crate::forms::{formed, wants_binary};
-use cmd_improve::{empty, refusal_of, reply_of};
+use crate::forms::wants_binary;
+use crate::replying::reply_of_text;
+use cmd_improve::{empty, refusal_of};
 use equiv_run::is_bare;
 use format_names::NetFormat;
 use frame_core::{Replier, Reply, Stop};
-use improve_wishes::{ImprovedText, Wishes, wished_aiger, wished_bench, wished_blif};
+use improve_wishes::{WishedText, Wishes, wished_aiger, wished_bench, wished_blif};
 use net_core::NetError;
 use net_theory::MOST_OF_NETLIST;
 use progress::Tell;
@@ -32,12 +33,11 @@ fn wished_text<S: Solver, T: Tell>(
     settings: ImproveSettings,
     wishes: Wishes,
     tell: &T,
-) -> Result<ImprovedText, NetError>
+) -> Result<WishedText, NetError>
     requires length { length bytes.now ≤ most_of_netlist }
     requires range { IsInRange settings }
     requires basis { FitsFormat (format_of format) settings }
-    ensures wished { IfOk result (λ i. IsWished (wished_format format wishes) settings wishes bytes.now i.text.items
-        i.report.items) }
+    ensures wished { IfOk result (IsWishedText (wished_format format wishes) settings wishes bytes.now) }
     ensures refused { IfErr result (IsRefusedText (format_of format) bytes.now) }
 {
     match format {
@@ -65,8 +65,8 @@ fn reply_to<S: Solver, T: Tell>(
 {
     let binary = wants_binary(format, wishes.form, bytes);
     match wished_text::<S, T>(alloc, format, bytes, settings, wishes, tell) {
-        Ok(improved) => match formed(alloc, binary, improved) {
-            Ok(answer) => Ok(reply_of(answer)),
+        Ok(wished) => match reply_of_text(alloc, binary, wished) {
+            Ok(reply) => Ok(reply),
             Err(AllocError) => Err(Stop::NoMemory),
         },
         Err(NetError::Memory) => Err(Stop::NoMemory),

@@ -26,6 +26,22 @@ pub(crate) const NETLISTS: &[Entry] = &[
         says: &[Part::Text(b" gates; at most "), Part::Number(MOST_GATES)],
     },
     Entry {
+        name: b"CannotExpress",
+        place: Place::Nowhere,
+        says: &[Part::Text(
+            b"no gates over --basis compute its operator; the name is that of `improve --cap 0`",
+        )],
+    },
+    Entry {
+        name: b"TooManyOverBasis",
+        place: Place::Nowhere,
+        says: &[
+            Part::Text(b"over --basis the netlist would have more than "),
+            Part::Number(MOST_GATES),
+            Part::Text(b" gates"),
+        ],
+    },
+    Entry {
         name: b"DrivenTwice",
         place: Place::DrivenAgain,
         says: &[Part::Text(b"a name is driven once: by an input, a table or gate, or a latch")],

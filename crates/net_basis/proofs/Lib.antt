@@ -5,3 +5,4 @@ pub mod Closures
 pub mod Recipes
 pub mod Placements
 pub mod Conversions
+pub mod Lengths

@@ -64,7 +64,7 @@ recipe_made basis op r is made few = record {
 -- ---- the recipe of an operator
 
 -- the recipe that is read at an index
-recipe_at : (basis : Basis) (rs : List Recipe) (at op : ℕ) (r : Recipe) → AreRecipes basis rs → at < 16 → at ≡ op →
+pub recipe_at : (basis : Basis) (rs : List Recipe) (at op : ℕ) (r : Recipe) → AreRecipes basis rs → at < 16 → at ≡ op →
     r ≡ slice_index_or rs at r → slice_get rs op ≡ Some r
 recipe_at basis rs at op r are low same is =
     ap (slice_get rs) (sym same) ∙ slice_get-get_or rs at r (omega (arith, low, are.count)) ∙ ap Some (sym is)

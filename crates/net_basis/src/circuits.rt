@@ -49,7 +49,7 @@ pub fn over_basis(alloc: Global, circuit: Circuit, basis: Basis) -> Result<Conve
     ensures cannot { IfOk result (λ all. IfCannot all (λ left node.
         IsInexpressibleAt (members basis) circuit.net node)) }
     ensures kept { IfOk result (λ all. IfCannot all (λ left node. left ≡ circuit)) }
-    ensures too_many { IfOk result (λ all. IfTooMany all (λ left. MayHaveTooMany circuit.net)) }
+    ensures too_many { IfOk result (λ all. IfTooMany all (λ left. MayHaveTooMany (members basis) circuit.net)) }
     ensures left { IfOk result (λ all. IfTooMany all (λ left. left ≡ circuit)) }
 {
     match net_of_circuit(alloc, &circuit, basis)? {

@@ -8,7 +8,8 @@ ghost use Rattle.net_theory.specs.Limits.{most_gates};
 ghost use Rattle.net_basis.specs.Joins.{operands, makes};
 ghost use Rattle.net_basis.specs.Placing.{AreRecipes};
 ghost use Rattle.net_basis.specs.OverBasis.{most_for_one};
-ghost use Rattle.net_basis.specs.Conversion.{has_chain, on_equal as on_equal_of, MayEndAt, IsGateAnswer};
+ghost use Rattle.net_basis.specs.Conversion.{has_chain, on_equal as on_equal_of, steps_in, replaced_by, lengths_by};
+ghost use Rattle.net_basis.specs.Conversion.{MayEndAt, IsGateAnswer};
 
 use crate::placing::push_chain;
 use crate::recipe::Recipe;
@@ -34,7 +35,7 @@ pub fn has_room(sources: u32, gates: usize, more: usize) -> bool
     requires more { more < 2 ^ 62 }
     ensures nodes { result ≡ true → sources + 1 + gates + more < 2 ^ 31 }
     ensures gates { result ≡ true → gates + more ≤ most_gates }
-    ensures none { result ≡ false → more ≤ most_for_one → MayEndAt sources gates }
+    ensures none { result ≡ false → MayEndAt sources gates more }
 {
     if gates + more > MOST_GATES as usize {
         return false;
@@ -60,18 +61,49 @@ fn is_there(recipes: &[Recipe], op: Op) -> bool
     op.get() == 0 || op.get() == 15 || recipes[usize::from(op.get())].is_made
 }
 
+/// The number of gates of an operator's chain: constants have none.
+#[tactic(auto, unfolding(crate::specs::Conversion::steps_in))]
+fn steps(recipes: &[Recipe], op: Op) -> usize
+    requires { length recipes.now ≡ 16 }
+    ensures { result ≡ steps_in recipes.now op }
+{
+    if op.get() == 0 || op.get() == 15 {
+        return 0;
+    }
+    recipes[usize::from(op.get())].joins.len()
+}
+
+/// Whether the chain of a simpler operator is there, and no longer than that of `op`.
+#[tactic(auto, unfolding(crate::specs::Conversion::replaced_by))]
+fn is_shorter(recipes: &[Recipe], simple: Op, op: Op) -> bool
+    requires count { length recipes.now ≡ 16 }
+    requires simple { simple ≡ on_equal_of op }
+    ensures has_chain { result ≡ true → has_chain recipes.now simple ≡ true }
+    ensures few { result ≡ true → steps_in recipes.now simple ≤ replaced_by recipes.now op }
+{
+    if !is_there(recipes, simple) {
+        return false;
+    }
+    if !is_there(recipes, op) {
+        return true;
+    }
+    steps(recipes, simple) <= steps(recipes, op)
+}
+
 /// The operator whose chain takes the place of the gate.
 fn chosen(recipes: &[Recipe], gate: &Gate) -> Op
     requires { length recipes.now ≡ 16 }
     ensures value { (f : ℕ → Bool) → apply result (sig_value f gate.now.a) (sig_value f gate.now.b) ≡
         gate_value f gate.now }
     ensures itself { has_chain recipes.now result ≡ false → result ≡ gate.now.op }
+    ensures few { has_chain recipes.now result ≡ true → steps_in recipes.now result ≤
+        replaced_by recipes.now gate.now.op }
 {
     if gate.a != gate.b {
         return gate.op;
     }
     let simple = on_equal(gate.op);
-    if is_there(recipes, simple) {
+    if is_shorter(recipes, simple, gate.op) {
         return simple;
     }
     gate.op
@@ -89,10 +121,10 @@ fn keep(
     requires few { vec_len gates.old ≤ most_gates }
     requires room { sources + vec_len gates.old < 2 ^ 31 }
     requires member { members basis gate.now.op ≡ true }
-    ensures answer { IfOk result (IsGateAnswer (members basis) sources gates.old.items gates.new.items gate.now) }
+    ensures answer { IfOk result (IsGateAnswer (members basis) 1 sources gates.old.items gates.new.items gate.now) }
     ensures few { OnOk result (vec_len gates.new ≤ most_gates) }
     ensures room { OnOk result (sources + vec_len gates.new < 2 ^ 31) }
-    ensures more { OnOk result (vec_len gates.new ≤ vec_len gates.old + most_for_one) }
+    ensures more { OnOk result (vec_len gates.new ≤ vec_len gates.old + 1) }
 {
     if !has_room(sources, gates.len(), 1) {
         return Ok(Expressed::TooMany);
@@ -119,10 +151,11 @@ fn replace(
     requires gate { IsGateAt (sources + 1 + length gates.old.items) gate.now }
     requires few { vec_len gates.old ≤ most_gates }
     requires room { sources + vec_len gates.old < 2 ^ 31 }
-    ensures answer { IfOk result (IsGateAnswer (members basis) sources gates.old.items gates.new.items gate.now) }
+    ensures answer { IfOk result (IsGateAnswer (members basis) (length recipe.now.joins.items) sources gates.old.items
+        gates.new.items gate.now) }
     ensures few { OnOk result (vec_len gates.new ≤ most_gates) }
     ensures room { OnOk result (sources + vec_len gates.new < 2 ^ 31) }
-    ensures more { OnOk result (vec_len gates.new ≤ vec_len gates.old + most_for_one) }
+    ensures more { OnOk result (vec_len gates.new ≤ vec_len gates.old + length recipe.now.joins.items) }
 {
     if !has_room(sources, gates.len(), recipe.joins.len()) {
         return Ok(Expressed::TooMany);
@@ -144,10 +177,12 @@ pub fn express(
     requires gate { IsGateAt (sources + 1 + length gates.old.items) gate.now }
     requires few { vec_len gates.old ≤ most_gates }
     requires room { sources + vec_len gates.old < 2 ^ 31 }
-    ensures answer { IfOk result (IsGateAnswer (members basis) sources gates.old.items gates.new.items gate.now) }
+    ensures answer { IfOk result (IsGateAnswer (members basis) (lengths_by (members basis) recipes.now gate.now.op)
+        sources gates.old.items gates.new.items gate.now) }
     ensures few { OnOk result (vec_len gates.new ≤ most_gates) }
     ensures room { OnOk result (sources + vec_len gates.new < 2 ^ 31) }
-    ensures more { OnOk result (vec_len gates.new ≤ vec_len gates.old + most_for_one) }
+    ensures more { OnOk result (vec_len gates.new ≤ vec_len gates.old +
+        lengths_by (members basis) recipes.now gate.now.op) }
 {
     if basis.contains(gate.op) {
         return keep(basis, sources, gates, gate);
