@@ -1,17 +1,15 @@
 -- A circuit's net can be replaced by one that behaves as it does. What is over a basis stays so.
-use Rattle.std.specs.Prelude.{◌≡◌, ℕ, ◌+◌, ◌*◌, ◌≤◌, ◌<◌, List, [], ◌∷◌, length}
-use Rattle.std.specs.Prelude.{slice_get, slice_index_or, Some, refl}
+use Rattle.std.specs.Prelude.{◌≡◌, ℕ, ◌+◌, ◌≤◌, ◌<◌, length, slice_get, slice_index_or, Some, refl}
 use Rattle.std.proofs.Common.{arith, sym, ◌∙◌, ap, subst, ⊎_elim}
 use Rattle.std.proofs.lemmas.Option.{slice_get-get_or, get_or_from_slice_get}
 use Rattle.chain_theory.specs.Operator.{Basis}
-use Rattle.net_theory.specs.declared.data.Gate.{Gate}
 use Rattle.net_theory.specs.declared.data.Sig.TheVariants.{Zero, Node}
 use Rattle.net_theory.specs.Net.{Net}
 use Rattle.net_theory.specs.Circuit.{Circuit, sources_of, IsProper, by_node}
 use Rattle.net_theory.specs.ExchangeLaws.{with_net}
 use Rattle.net_theory.specs.Limits.{most_gates}
 use Rattle.net_theory.specs.Operators.{HasOperatorsWithin}
-use Rattle.net_basis.specs.OverBasis.{HaveOperatorsIn, BehavesAs, IsNetOver, IsCircuitOver, AreLengths, most_over, most_for_one}
+use Rattle.net_basis.specs.OverBasis.{HaveOperatorsIn, BehavesAs, IsNetOver, IsCircuitOver}
 
 behaving_proper : (c : Circuit) (m : Net) → IsProper c → BehavesAs c.net m → length m.gates ≤ most_gates → IsProper (with_net c m)
 behaving_proper c m is behaves few =
@@ -35,13 +33,6 @@ behaving_proper c m is behaves few =
       gates = few;
     }
 
--- each gate's chain is short
-pub most_each : (basis : Basis) (lengths : ℕ → ℕ) (gs : List Gate) → AreLengths basis lengths →
-    most_over lengths gs ≤ most_for_one * length gs
-unfolding most_over
-most_each basis lengths [] are = omega arith
-most_each basis lengths (g ∷ gs) are = omega (arith, are.few g.op, most_each basis lengths gs are)
-
 -- a circuit with its net over a basis
 pub circuit_over : (basis : Basis) (c k : Circuit) (m : Net) → IsProper c → IsNetOver basis c.net m → k ≡ with_net c m → IsCircuitOver basis c k
 circuit_over basis c k m is over same =
@@ -56,7 +47,6 @@ circuit_over basis c k m is over same =
         values = λ given. sym (over.behaves.values (by_node (sources_of c) given));
       };
       over = over;
-      each_few = omega (arith, over.fewer, most_each basis over.lengths c.net.gates over.are_lengths);
     })
 
 -- Where each operator of m is in the basis or is one of n, and n is over the basis, so is m.

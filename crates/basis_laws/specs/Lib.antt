@@ -1,0 +1,2 @@
+pub mod TablesOver
+pub mod WrittenOver
