@@ -103,6 +103,16 @@ abbrev pub HasWishFault : NetFormat → List ℕ → NamedFault → Type 0
 HasWishFault format bytes Empty = IsEmpty bytes
 HasWishFault format bytes (Faulty error) = IsFaulty format bytes error
 
-abbrev pub wished_task : NetFormat → ImproveSettings → Wishes → Task
-wished_task format settings w = at_once most_of_netlist WishAnswer (IsWishAnswer format settings w) wish_reply
+-- the task of wishes that the format can have
+abbrev pub answered_task : NetFormat → ImproveSettings → Wishes → Task
+answered_task format settings w = at_once most_of_netlist WishAnswer (IsWishAnswer format settings w) wish_reply
     NamedFault (HasWishFault format) named_refusal
+
+-- AIGER has gates of its own and no wish for a basis: its words are refused with one (`wish_words`).
+abbrev pub wishes_for : NetFormat → Wishes → Wishes
+wishes_for Blif w = w
+wishes_for Bench w = w
+wishes_for Aiger w = record w { only = false }
+
+abbrev pub wished_task : NetFormat → ImproveSettings → Wishes → Task
+wished_task format settings w = answered_task format settings (wishes_for format w)

@@ -2,13 +2,14 @@
 ghost use Rattle.std.specs.Prelude.{◌≡◌, ◌≤◌, length, false, IfOk, IfErr};
 ghost use Rattle.net_theory.specs.Limits.{most_of_netlist};
 ghost use Rattle.net_document.specs.Format.{IsRefusedText};
+ghost use Rattle.format_names.specs.declared.formats.NetFormat.TheVariants.{Aiger};
 ghost use Rattle.net_formats.specs.Formats.{format_of};
 ghost use Rattle.settings.specs.Improve.{IsInRange};
 ghost use Rattle.equiv_run.specs.Two.{is_bare as is_bare_of};
 ghost use Rattle.improve_windows.specs.Improving.{FitsFormat};
 ghost use Rattle.improve_wishes.specs.Texts.{IsWishedText};
 ghost use Rattle.frame_core.specs.Views.{Judges};
-ghost use Rattle.cmd_wishes.specs.WishReport.{wished_format, wished_task};
+ghost use Rattle.cmd_wishes.specs.WishReport.{wished_format, wishes_for as wishes_for_of, answered_task, wished_task};
 
 use crate::forms::wants_binary;
 use crate::replying::reply_of_text;
@@ -25,6 +26,40 @@ use settings::ImproveSettings;
 use std::alloc::{AllocError, Global};
 use std::marker::PhantomData;
 
+/// The wishes that a format can have: AIGER has no wish for a basis.
+fn wishes_for(format: NetFormat, wishes: Wishes) -> Wishes
+    ensures for { result ≡ wishes_for_of format wishes }
+    ensures only { format ≡ Aiger → result.only ≡ false }
+{
+    match format {
+        NetFormat::Blif => wishes,
+        NetFormat::Bench => wishes,
+        NetFormat::Aiger => Wishes {
+            only: false,
+            ..wishes
+        },
+    }
+}
+
+/// Improves an AIGER file by wishes.
+fn wished_file<S: Solver, T: Tell>(
+    alloc: Global,
+    bytes: &[u8],
+    settings: ImproveSettings,
+    wishes: Wishes,
+    tell: &T,
+) -> Result<WishedText, NetError>
+    requires length { length bytes.now ≤ most_of_netlist }
+    requires range { IsInRange settings }
+    requires basis { FitsFormat (format_of Aiger) settings }
+    requires only { wishes.only ≡ false }
+    ensures wished { IfOk result (IsWishedText (format_of Aiger) settings wishes bytes.now) }
+    ensures refused { IfErr result (IsRefusedText (format_of Aiger) bytes.now) }
+{
+    let improved = wished_aiger::<S, T>(alloc, bytes, settings, wishes, tell)?;
+    Ok(WishedText::Text(improved))
+}
+
 /// Improves a netlist of a format by wishes.
 fn wished_text<S: Solver, T: Tell>(
     alloc: Global,
@@ -37,13 +72,14 @@ fn wished_text<S: Solver, T: Tell>(
     requires length { length bytes.now ≤ most_of_netlist }
     requires range { IsInRange settings }
     requires basis { FitsFormat (format_of format) settings }
+    requires only { format ≡ Aiger → wishes.only ≡ false }
     ensures wished { IfOk result (IsWishedText (wished_format format wishes) settings wishes bytes.now) }
     ensures refused { IfErr result (IsRefusedText (format_of format) bytes.now) }
 {
     match format {
         NetFormat::Blif => wished_blif::<S, T>(alloc, bytes, settings, wishes, tell),
         NetFormat::Bench => wished_bench::<S, T>(alloc, bytes, settings, wishes, tell),
-        NetFormat::Aiger => wished_aiger::<S, T>(alloc, bytes, settings, wishes, tell),
+        NetFormat::Aiger => wished_file::<S, T>(alloc, bytes, settings, wishes, tell),
     }
 }
 
@@ -61,7 +97,8 @@ fn reply_to<S: Solver, T: Tell>(
     requires said { is_bare_of bytes.now ≡ false }
     requires range { IsInRange settings }
     requires basis { FitsFormat (format_of format) settings }
-    ensures { Judges (wished_task format settings wishes) bytes.now result }
+    requires only { format ≡ Aiger → wishes.only ≡ false }
+    ensures { Judges (answered_task format settings wishes) bytes.now result }
 {
     let binary = wants_binary(format, wishes.form, bytes);
     match wished_text::<S, T>(alloc, format, bytes, settings, wishes, tell) {
@@ -105,12 +142,13 @@ impl<'a, S: Solver, T: Tell> Replier for ImproveWished<'a, S, T> {
         if says_nothing {
             return Err(Stop::NoAnswer(empty(b"Empty")));
         }
+        let wishes = wishes_for(self.format, self.wishes);
         reply_to::<S, T>(
             alloc,
             self.format,
             bytes,
             self.settings,
-            self.wishes,
+            wishes,
             self.tell,
         )
     }

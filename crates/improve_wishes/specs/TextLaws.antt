@@ -20,7 +20,7 @@ use Rattle.based.specs.declared.answer.Based.{Based}
 use Rattle.based.specs.declared.answer.Based.TheVariants.{Base, Cannot, TooMany}
 use Rattle.based.specs.Based.{left_of, IsInexpressibleBy, IfBase, IfCannot, IfTooMany, IfNone}
 use Rattle.improve_wishes.specs.Wished.{IsBase, IsCannotExpress, IsTooLarge}
-use Rattle.improve_wishes.specs.WishedLaws.{CanIfRoom, base_can, keeps_bench, keeps_aiger}
+use Rattle.improve_wishes.specs.WishedLaws.{CanIfRoom, base_can, keeps_bench}
 
 -- ---- what was found
 
@@ -38,11 +38,10 @@ pub bench_can : (only : Bool) (s : ImproveSettings) (bytes : List ℕ) (c b : Ci
 bench_can only s bytes c b found format fits of_text is has =
     base_can bench_format CanWriteBench only s bytes c b format (keeps_bench only s fits) of_text (base_at only s c b found is has)
 
-pub aiger_can : (only : Bool) (s : ImproveSettings) (bytes : List ℕ) (c b : Circuit) (found : Based) →
-    IsFormat aiger_forms CanWriteAiger → FitsFormat aiger_forms s → IsCircuitOfText aiger_forms bytes c →
-    found ≡ Base b → IfBase found (IsBase only s c) → CanIfRoom CanWriteAiger b
-aiger_can only s bytes c b found format fits of_text is has =
-    base_can aiger_forms CanWriteAiger only s bytes c b format (keeps_aiger only s fits) of_text (base_at only s c b found is has)
+-- what AIGER improves is the circuit that was read
+pub aiger_can : (bytes : List ℕ) (c : Circuit) → IsFormat aiger_forms CanWriteAiger →
+    IsCircuitOfText aiger_forms bytes c → CanIfRoom CanWriteAiger c
+aiger_can bytes c format is = λ room. format.kept bytes c is room
 
 -- ---- no text
 

@@ -4,7 +4,7 @@ use Rattle.op_basis.specs.Basis.{members}
 use Rattle.net_theory.specs.Behaviour.{IsEquivalent}
 use Rattle.net_theory.specs.Cost.{cost}
 use Rattle.net_theory.specs.Dangling.{cleanup}
-use Rattle.net_theory.specs.Document.{Name}
+use Rattle.net_theory.specs.Document.{Name, Document}
 use Rattle.net_theory.specs.Net.{Net}
 use Rattle.net_theory.specs.NetOf.{net_of}
 use Rattle.net_theory.specs.Naming.{gate_names}
@@ -20,7 +20,8 @@ use Rattle.wish_names.specs.declared.wishes.Wishes.{Wishes}
 use Rattle.wish_names.specs.declared.wishes.LevelsAsked.{LevelsAsked}
 use Rattle.wish_names.specs.declared.wishes.LevelsAsked.TheVariants.{Untold, Tell, Keep, Most}
 use Rattle.net_levels.specs.Levels.{levels_of}
-use Rattle.net_basis.specs.OverBasis.{HaveOperatorsIn, IsNetOver, MayHaveTooMany}
+use Rattle.net_basis.specs.DocumentOver.{IsDocumentOver}
+use Rattle.net_basis.specs.OverBasis.{IsNetOver, MayHaveTooMany}
 use Rattle.based.specs.Based.{left_of, IsInexpressibleBy}
 use Rattle.improve_theory.specs.Undecided.{Undecided}
 use Rattle.improve_theory.specs.Improvement.{IsImprovementBy}
@@ -29,20 +30,17 @@ use Rattle.improve_wishes.specs.LevelsReport.{wished_report}
 
 -- ---- operators
 
--- Each gate has an operator of the basis.
-abbrev pub IsOver : ℕ → Net → Type 0
-IsOver basis n = HaveOperatorsIn (members basis) n.gates
-
--- What is improved: the document's net, or with `--only yes` what isn't dangling in it, over the basis, with no more
--- gates than take the place of those.
+-- What is improved: the document's net, or with `--only yes` what isn't dangling in it, over the basis: itself if its
+-- gates are over the basis, and else with no more gates than take the place of them.
 abbrev pub IsBaseNet : Bool → ImproveSettings → Net → Net → Type 0
 IsBaseNet false s n base = base ≡ n
 IsBaseNet true s n base = IsNetOver (members s.basis) (cleanup n) base
 
--- With `--only yes` what is written is over the basis too.
-abbrev pub IsOverIf : Bool → ImproveSettings → Net → Type 0
-IsOverIf false s n = Unit {0}
-IsOverIf true s n = IsOver s.basis n
+-- With `--only yes` the document that is written is over the basis: its tables are gates of the basis, NOT where the
+-- basis has it, copies and constants.
+abbrev pub IsOverIf : Bool → ImproveSettings → Document → Type 0
+IsOverIf false s d = Unit {0}
+IsOverIf true s d = IsDocumentOver (members s.basis) d
 
 -- ---- levels
 
@@ -95,8 +93,9 @@ pub record IsTextBy (f : Format) (Can : Circuit → Type 0) (s : ImproveSettings
 
 -- The bytes list a well-formed document, whose net was improved, or with `--only yes` that of an equivalent circuit over
 -- the basis. The text is that of a proper circuit with the document's model, which is equivalent to it, has no more gates
--- than what was improved, and has what is wished of operators and levels. The text lists a well-formed document again,
--- which is equivalent to the first one. The report has the gates and the levels of both nets.
+-- than what was improved, and has what is wished of levels. The text lists a well-formed document again, which is
+-- equivalent to the first one, and over the basis if that is wished. The report has the gates and the levels of both
+-- nets.
 pub record IsWished (f : Format) (s : ImproveSettings) (w : Wishes) (bytes text report : List ℕ) : Type 0 where
   pub read : Listed
   pub said : f.listed bytes ≡ Ok read
@@ -111,11 +110,11 @@ pub record IsWished (f : Format) (s : ImproveSettings) (w : Wishes) (bytes text 
   pub model : read.document.model ≡ circuit.model
   pub describes : Describes read.document circuit
   pub spelled : text ≡ f.text circuit
-  pub over : IsOverIf w.only s circuit.net
   pub operators : HasOperatorsWithin (members s.basis) base.net circuit.net
   pub again : Listed
   pub said_again : f.listed text ≡ Ok again
   pub well_again : IsWellFormed again.document
+  pub over : IsOverIf w.only s again.document
   pub same : IsEquivalent read.document again.document
   pub before : ℕ
   pub after : ℕ
@@ -130,8 +129,8 @@ pub record IsWished (f : Format) (s : ImproveSettings) (w : Wishes) (bytes text 
 
 -- ---- what can't be over the basis
 
--- The bytes list a well-formed document. Its net has a gate that isn't dangling, and is written by this name, with an
--- operator that no chain over the basis computes.
+-- The bytes list a well-formed document. Its net has a gate that isn't dangling, and is written by this name, whose
+-- function of its different signals no gates over the basis compute.
 pub record IsCannotExpress (f : Format) (s : ImproveSettings) (w : Wishes) (bytes : List ℕ) (name : Name) : Type 0 where
   pub wish : w.only ≡ true
   pub circuit : Circuit

@@ -2,10 +2,12 @@
 use Rattle.std.specs.Prelude.{◌≡◌, ℕ, ◌≤◌, Bool, true, false, List, [], ◌∷◌, length, All, refl}
 use Rattle.std.proofs.Common.{arith, sym, ◌∙◌, ap, subst, inl, inr, ⊎_elim}
 use Rattle.std.proofs.lemmas.Grind.{common_steps}
+use Rattle.chain_theory.specs.Operator.{Basis}
 use Rattle.op_basis.specs.Basis.{members}
 use Rattle.net_theory.specs.declared.data.Gate.{Gate}
 use Rattle.net_theory.specs.declared.data.Sig.{Sig}
 use Rattle.net_theory.specs.Cost.{cost}
+use Rattle.net_theory.specs.Document.{Document}
 use Rattle.net_theory.specs.Net.{Net}
 use Rattle.net_theory.specs.NameLaws.{all_at, at_all}
 use Rattle.net_theory.specs.Naming.{gate_names}
@@ -20,36 +22,55 @@ use Rattle.net_document.specs.Format.{Format, IsCircuitOfText, CanOperate, IsFor
 use Rattle.net_document.specs.EquivalenceLaws.{equivalent_same, describes_equivalent}
 use Rattle.blif_core.specs.Blif.{blif_format, CanWriteBlif}
 use Rattle.bench_core.specs.Bench.{bench_format}
+use Rattle.bench_core.specs.Gates.{first_source}
 use Rattle.bench_core.specs.Writable.{HasGateWord}
 use Rattle.bench_laws.specs.Spelled.{IsGateWord, CanWriteBench}
-use Rattle.aiger_forms.specs.Forms.{aiger_forms}
-use Rattle.aiger_laws.specs.Writable.{CanWriteAiger}
 use Rattle.settings.specs.declared.improve.ImproveSettings.{ImproveSettings}
 use Rattle.wish_names.specs.declared.wishes.Wishes.{Wishes}
+use Rattle.wish_names.specs.declared.wishes.CoversAsked.{CoversAsked}
+use Rattle.wish_names.specs.declared.wishes.CoversAsked.TheVariants.{Rows, Least}
 use Rattle.wish_names.specs.declared.wishes.LevelsAsked.{LevelsAsked}
 use Rattle.wish_names.specs.declared.wishes.LevelsAsked.TheVariants.{Untold, Tell, Keep, Most}
 use Rattle.net_levels.specs.Levels.{levels_of}
-use Rattle.net_basis.specs.OverBasisLaws.{most_each}
+use Rattle.net_basis.specs.DocumentOver.{IsDocumentOver}
+use Rattle.net_basis.specs.OverBasis.{HaveOperatorsIn}
+use Rattle.net_basis.specs.OverBasisLaws.{within_over}
 use Rattle.improve_theory.specs.Undecided.{Undecided}
 use Rattle.improve_windows.specs.Improving.{FitsFormat, IsBetter}
 use Rattle.improve_windows.specs.ImprovingLaws.{named_can}
 use Rattle.improve_windows.specs.ReportLaws.{CanBeWritten}
 use Rattle.improve_levels.specs.Within.{IsBetterWithin}
+use Rattle.basis_laws.specs.WrittenOver.{written_over, least_over, gates_written_over}
+use Rattle.improve_wishes.specs.Covers.{blif_in}
 use Rattle.improve_wishes.specs.LevelsReport.{wished_report}
-use Rattle.improve_wishes.specs.Wished.{IsOver, IsBaseNet, IsOverIf, IsReached, IsBetterBy, IsBase, IsTextBy, IsWished}
+use Rattle.improve_wishes.specs.Wished.{IsBaseNet, IsOverIf, IsReached, IsBetterBy, IsBase, IsTextBy, IsWished}
 
 -- ---- operators
 
-over_of : (basis : ℕ) (b m : Net) → IsOver basis b → HasOperatorsWithin (members basis) b m → IsOver basis m
-over_of basis b m over within = record {
-  each = λ i g at. ⊎_elim (λ new. new) (λ old. subst (λ (op : ℕ). members basis op ≡ true) old.same
-      (over.each old.index old.gate old.at)) (within.each i g at);
-}
+-- what the format writes of a circuit over a basis is over it
+abbrev pub WritesOver : Format → (Circuit → Type 0) → Type 0
+WritesOver f Can = (basis : Basis) (k : Circuit) → Can k → HaveOperatorsIn basis k.net.gates →
+    IsDocumentOver basis (f.written k)
 
-over_if : (only : Bool) (s : ImproveSettings) (n b m : Net) → IsBaseNet only s n b →
-    HasOperatorsWithin (members s.basis) b m → IsOverIf only s m
-over_if false s n b m is within = tt
-over_if true s n b m is within = over_of s.basis b m is.operators within
+-- where it is wished for
+abbrev pub OverWhere : Bool → Format → (Circuit → Type 0) → Type 0
+OverWhere false f Can = Unit {0}
+OverWhere true f Can = WritesOver f Can
+
+pub over_where : (only : Bool) (f : Format) (Can : Circuit → Type 0) → WritesOver f Can → OverWhere only f Can
+over_where false f Can writes = tt
+over_where true f Can writes = writes
+
+pub over_nowhere : (only : Bool) (f : Format) (Can : Circuit → Type 0) → only ≡ false → OverWhere only f Can
+over_nowhere only f Can no_wish = subst (λ (o : Bool). OverWhere o f Can) (sym no_wish) tt
+
+over_if : (f : Format) (Can : Circuit → Type 0) (only : Bool) (s : ImproveSettings) (n b : Net) (k : Circuit)
+    (d : Document) → OverWhere only f Can → IsBaseNet only s n b → HasOperatorsWithin (members s.basis) b k.net →
+    Can k → d ≡ f.written k → IsOverIf only s d
+over_if f Can false s n b k d writes is within can same = tt
+over_if f Can true s n b k d writes is within can same =
+    subst (IsDocumentOver (members s.basis)) (sym same)
+    (writes (members s.basis) k can (within_over (members s.basis) b k.net is.operators within))
 
 -- ---- improving a circuit
 
@@ -208,9 +229,9 @@ text_by f Can s levels b k base_levels before after settled named text report be
 }
 
 pub wished : (f : Format) (Can : Circuit → Type 0) (s : ImproveSettings) (w : Wishes) (bytes text report : List ℕ)
-    (c b : Circuit) → IsFormat f Can → IsCircuitOfText f bytes c → IsBase w.only s c b →
+    (c b : Circuit) → IsFormat f Can → OverWhere w.only f Can → IsCircuitOfText f bytes c → IsBase w.only s c b →
     IsTextBy f Can s w.levels b text report → IsWished f s w bytes text report
-wished f Can s w bytes text report c b format is base by =
+wished f Can s w bytes text report c b format writes is base by =
     let k = by.circuit in
     let better = by.better in
     let back = format.read_back k by.writes in
@@ -229,11 +250,11 @@ wished f Can s w bytes text report c b format is base by =
       model = is.circuit.model ∙ sym (ap (λ (x : Circuit). x.model) base.same) ∙ sym (ap (λ (x : Circuit). x.model) better.same);
       describes = describes_equivalent is.listed.document b k of_base better.equivalent;
       spelled = by.spelled;
-      over = over_if w.only s c.net b.net k.net base.net better.operators;
       operators = better.operators;
       again = back.listed;
       said_again = ap f.listed by.spelled ∙ back.said;
       well_again = back.well;
+      over = over_if f Can w.only s c.net b.net k back.listed.document writes base.net better.operators by.writes back.document;
       same = equivalent_same is.listed.document back.listed.document b k of_base back.describes better.equivalent;
       before = by.before;
       after = by.after;
@@ -251,29 +272,22 @@ wished f Can s w bytes text report c b format is base by =
 pub keeps_blif : (only : Bool) (s : ImproveSettings) → KeepsWriting CanWriteBlif only s
 keeps_blif only s c b base can = (base.proper, subst HasRoomForNames (sym base.same) can.1)
 
+-- ---- what is written over the basis
+
+pub blif_writes : (covers : CoversAsked) → WritesOver (blif_in covers) CanWriteBlif
+blif_writes Rows basis k can over = written_over basis k can.0 over
+blif_writes Least basis k can over = least_over basis k can.0 over
+
+pub bench_writes : WritesOver bench_format CanWriteBench
+bench_writes basis k can over =
+    gates_written_over basis (first_source k) k can.writable.fits.proper over can.operators
+
 -- the gates of what is improved have operators of the format
 gates_of : (f : Format) (only : Bool) (s : ImproveSettings) (n b : Net) → FitsFormat f s → IsBaseNet only s n b →
     All (λ (g : Gate). f.operators g.op ≡ true) n.gates → All (λ (g : Gate). f.operators g.op ≡ true) b.gates
 gates_of f false s n b fits is all = subst (λ (m : Net). All (λ (g : Gate). f.operators g.op ≡ true) m.gates) (sym is) all
 gates_of f true s n b fits is all =
     at_all (λ (g : Gate). f.operators g.op ≡ true) b.gates (λ j h at. fits h.op (is.operators.each j h at))
-
-aiger_with : (only : Bool) (s : ImproveSettings) (c b : Circuit) → FitsFormat aiger_forms s → IsBase only s c b →
-    CanWriteAiger c → CanWriteAiger (with_net c b.net)
-aiger_with only s c b fits base can = record {
-  proper = subst IsProper base.same base.proper;
-  model = can.model;
-  clocks = can.clocks;
-  latches = can.latches;
-  free = can.free;
-  apart = can.apart;
-  gates = gates_of aiger_forms only s c.net b.net fits base.net can.gates;
-  sources = can.sources;
-  outputs = can.outputs;
-}
-
-pub keeps_aiger : (only : Bool) (s : ImproveSettings) → FitsFormat aiger_forms s → KeepsWriting CanWriteAiger only s
-keeps_aiger only s fits c b base can = subst CanWriteAiger (sym base.same) (aiger_with only s c b fits base can)
 
 gate_words : (gs : List Gate) → All IsGateWord gs → All HasGateWord gs
 gate_words gs all = at_all HasGateWord gs (λ j h at. λ p q a b apart. all_at IsGateWord gs j h all at)
@@ -287,18 +301,17 @@ empty : {A : Type 0} (xs : List A) → length xs ≤ 0 → xs ≡ []
 empty [] none = refl
 empty (x ∷ xs) none = absurd (omega (arith, none))
 
+none_in : (basis : Basis) (gs : List Gate) → gs ≡ [] → HaveOperatorsIn basis gs
+none_in basis gs none = subst (HaveOperatorsIn basis) (sym none) (record { each = λ i g at. absurd cc })
+
 no_gates : (only : Bool) (s : ImproveSettings) (c b : Circuit) → IsProper c → IsBaseNet only s c.net b.net →
     c.net.gates ≡ [] → b.net.gates ≡ []
 no_gates false s c b is same none = ap (λ (n : Net). n.gates) same ∙ none
 no_gates true s c b is over none =
     let left : IsCleanedUp c.net (cleanup c.net) = cleanup_is c.net is.net in
-    empty b.net.gates (omega (
-      arith,
-      over.fewer,
-      most_each (members s.basis) over.lengths (cleanup c.net).gates over.are_lengths,
-      left.implements.fewer,
-      ap (length {A = Gate}) none,
-    ))
+    let all : (cleanup c.net).gates ≡ [] =
+    empty (cleanup c.net).gates (omega (arith, left.implements.fewer, ap (length {A = Gate}) none)) in
+    ap (λ (n : Net). n.gates) (over.itself (none_in (members s.basis) (cleanup c.net).gates all)) ∙ all
 
 no_sinks : (only : Bool) (s : ImproveSettings) (c b : Circuit) → IsProper c → IsBaseNet only s c.net b.net →
     c.net.sinks ≡ [] → b.net.sinks ≡ []

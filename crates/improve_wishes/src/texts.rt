@@ -1,5 +1,5 @@
 //! Texts that are improved by wishes, in each format.
-ghost use Rattle.std.specs.Prelude.{◌<◌, ◌^◌, length, IfOk, IfErr};
+ghost use Rattle.std.specs.Prelude.{◌≡◌, ◌<◌, ◌^◌, false, length, IfOk, IfErr};
 ghost use Rattle.net_document.specs.Format.{IsRefusedText};
 ghost use Rattle.blif_core.specs.Blif.{blif_format};
 ghost use Rattle.bench_core.specs.Bench.{bench_format};
@@ -8,6 +8,7 @@ ghost use Rattle.settings.specs.Improve.{IsInRange};
 ghost use Rattle.improve_windows.specs.Improving.{FitsFormat};
 ghost use Rattle.improve_wishes.specs.Covers.{blif_in};
 ghost use Rattle.improve_wishes.specs.Texts.{IsWishedText};
+ghost use Rattle.improve_wishes.specs.Wished.{IsWished};
 
 use crate::bases::base_of;
 use crate::writing::{aiger_of, bench_of, blif_of};
@@ -31,9 +32,9 @@ use wish_names::Wishes;
 pub enum WishedText {
     /// The text and its report.
     Text(ImprovedText),
-    /// The basis can't express the operator of the gate with this name.
+    /// The basis can't express the gate with this name.
     Cannot(Vec<u8>),
-    /// Over the basis there would be more gates than a netlist may have.
+    /// Over the basis there could be more gates than a netlist may have.
     TooMany,
 }
 
@@ -97,7 +98,7 @@ pub fn wished_bench<S: Solver, T: Tell>(
 }
 
 /// Improves an AIGER file in either form by the settings and the wishes, and writes its ASCII form. It is refused as
-/// `improve_aiger` refuses it.
+/// `improve_aiger` refuses it. An AIGER file is over AND with complements anyway: no other basis can be wished for.
 #[tactic(auto, using(crate::specs::TextLaws::texts))]
 pub fn wished_aiger<S: Solver, T: Tell>(
     alloc: Global,
@@ -105,23 +106,17 @@ pub fn wished_aiger<S: Solver, T: Tell>(
     settings: ImproveSettings,
     wishes: Wishes,
     tell: &T,
-) -> Result<WishedText, NetError>
+) -> Result<ImprovedText, NetError>
     requires size { length bytes.now < 2 ^ 31 }
     requires range { IsInRange settings }
     requires basis { FitsFormat aiger_forms settings }
-    ensures wished { IfOk result (IsWishedText aiger_forms settings wishes bytes.now) }
+    requires only { wishes.only ≡ false }
+    ensures wished { IfOk result (λ i. IsWished aiger_forms settings wishes bytes.now i.text.items i.report.items) }
     ensures refused { IfErr result (IsRefusedText aiger_forms bytes.now) }
 {
     // for the prover: the laws of AIGER
     forms_are_a_format();
     let circuit = read_forms(alloc, bytes)?;
-    let found = base_of(alloc, circuit, &settings, wishes.only)?;
-    match found {
-        Based::Base(base) => {
-            let improved = aiger_of::<S, T>(alloc, base, settings, wishes.levels, tell)?;
-            Ok(WishedText::Text(improved))
-        }
-        Based::Cannot(name) => Ok(WishedText::Cannot(name)),
-        Based::TooMany => Ok(WishedText::TooMany),
-    }
+    let improved = aiger_of::<S, T>(alloc, circuit, settings, wishes.levels, tell)?;
+    Ok(improved)
 }

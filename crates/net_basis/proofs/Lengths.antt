@@ -20,7 +20,7 @@ use Rattle.net_basis.specs.Placing.{IsRecipe, AreRecipes, IsConverted, AreLeft}
 use Rattle.net_basis.specs.Conversion.{is_made_of, steps_of, lengths_by, MayEndAt, IsGateAnswer, IsPassed}
 use Rattle.net_basis.proofs.Conversions.{most_split, most_none}
 
-differ : {A : Type 0} (b : Bool) → b ≡ true → b ≡ false → A
+pub differ : {A : Type 0} (b : Bool) → b ≡ true → b ≡ false → A
 differ b on off = absurd cc
 
 -- ---- the number of a function

@@ -182,6 +182,13 @@ fn steps(recipe: &Recipe) -> usize
     16
 }
 
+/// Whether a recipe has no more steps than another.
+fn is_no_longer(short: &Recipe, own: &Recipe) -> bool
+    ensures { result ≡ true → steps_of (Some short.now) ≤ steps_of (Some own.now) }
+{
+    steps(short) <= steps(own)
+}
+
 /// The function whose chain takes the place of a gate: that of the gate as it is now, its operands mapped, if it has a
 /// chain that is no longer than that of `word`.
 fn chosen(recipes: &[Recipe], word: Op, gate: &Gate) -> Op
@@ -195,10 +202,13 @@ fn chosen(recipes: &[Recipe], word: Op, gate: &Gate) -> Op
     let simple = local_word(gate);
     let short = recipe_of(recipes, simple);
     let own = recipe_of(recipes, word);
-    if short.is_made && short.joins.len() <= steps(own) {
-        return simple;
+    if !short.is_made {
+        return word;
     }
-    word
+    if !is_no_longer(short, own) {
+        return word;
+    }
+    simple
 }
 
 /// Appends the chain of a gate's function, if there is one.

@@ -20,10 +20,10 @@ most_levels = 1000000
 
 -- ---- the values of options; None: the word is no value
 
--- `--only yes` or `no`, by default `no`
-abbrev pub only_in : Option (List ℕ) → Option Bool
-only_in None = Some false
-only_in (Some word) = flag_in word
+-- `--only yes` or `no`, by default `no`; not for AIGER, which has gates of its own
+abbrev pub only_in : Bool → Option (List ℕ) → Option Bool
+only_in aiger None = Some false
+only_in aiger (Some word) = if aiger then None else flag_in word
 
 abbrev pub most_in : Option ℕ → Option LevelsAsked
 most_in None = None
@@ -80,10 +80,10 @@ wishes_from (Some only) None covers form = None
 wishes_from None levels covers form = None
 
 -- the wishes of options; None: there are none, or a value is none
-abbrev pub wishes_in : List (List ℕ) → Bool → FormAsked → Option Wishes
-wishes_in options blif form =
+abbrev pub wishes_in : List (List ℕ) → Bool → Bool → FormAsked → Option Wishes
+wishes_in options aiger blif form =
     if names_wish options form then
-    wishes_from (only_in (word_after (codes "--only") options)) (levels_in (word_after (codes "--levels") options))
+    wishes_from (only_in aiger (word_after (codes "--only") options)) (levels_in (word_after (codes "--levels") options))
     (covers_in blif (word_after (codes "--covers") options)) form
     else None
 
@@ -117,7 +117,7 @@ wished_by (Some wishes) aiger words = Some (record { wishes = wishes; aiger = ai
 
 abbrev pub wished_as : Bool → Option (List ℕ) → List ℕ → List (List ℕ) → Option Wished
 wished_as aiger output name options =
-    wished_by (wishes_in options (is_blif aiger (named_format options)) (form_in aiger output)) aiger
+    wished_by (wishes_in options aiger (is_blif aiger (named_format options)) (form_in aiger output)) aiger
     (name ∷ plain_options aiger options)
 
 abbrev pub wished_words : Line → List (List ℕ) → Option Wished

@@ -28,13 +28,18 @@ fn flag_in(word: &[u8]) -> Option<bool>
     None
 }
 
-/// The value of `--only`.
-fn only_in(options: &[String]) -> Option<bool>
-    ensures { result ≡ spec.only_in (word_after_of (codes "--only") (map string_bytes options.now)) }
+/// The value of `--only`, by whether the netlist is in AIGER.
+fn only_in(aiger: bool, options: &[String]) -> Option<bool>
+    ensures { result ≡ spec.only_in aiger (word_after_of (codes "--only") (map string_bytes options.now)) }
 {
     match word_after(b"--only", options) {
         None => Some(false),
-        Some(word) => flag_in(word),
+        Some(word) => {
+            if aiger {
+                return None;
+            }
+            flag_in(word)
+        }
     }
 }
 
@@ -192,14 +197,19 @@ fn wishes_from(
 }
 
 /// The wishes of options; None if there are none, or a value is none.
-pub(crate) fn wishes_in(options: &[String], blif: bool, form: FormAsked) -> Option<Wishes>
-    ensures { result ≡ spec.wishes_in (map string_bytes options.now) blif form }
+pub(crate) fn wishes_in(
+    options: &[String],
+    aiger: bool,
+    blif: bool,
+    form: FormAsked,
+) -> Option<Wishes>
+    ensures { result ≡ spec.wishes_in (map string_bytes options.now) aiger blif form }
 {
     if !names_wish(options, form) {
         return None;
     }
     wishes_from(
-        only_in(options),
+        only_in(aiger, options),
         levels_in(options),
         covers_in(blif, options),
         form,
