@@ -182,21 +182,20 @@ all_in basis [] all = refl
 all_in basis (g ∷ gs) all =
     rw (all.each 0 g refl) (all_in basis gs (record { each = λ i h at. all.each (suc i) h at }))
 
+some_gate : (a b : Gate) → Some a ≡ Some b → a ≡ b
+some_gate a b e = cc
+
+one_more_in : (basis : Basis) (g : Gate) (gs : List Gate) → basis g.op ≡ true → HaveOperatorsIn basis gs → (i : ℕ) (h : Gate) →
+    slice_get (g ∷ gs) i ≡ Some h → basis h.op ≡ true
+one_more_in basis g gs own later zero h at = subst (λ (x : Gate). basis x.op ≡ true) (some_gate g h at) own
+one_more_in basis g gs own later (suc i) h at = later.each i h at
+
 pub in_all : (basis : Basis) (gs : List Gate) → are_in basis gs ≡ true → HaveOperatorsIn basis gs
 unfolding are_in
 in_all basis [] is = record { each = λ i h at. absurd cc }
 in_all basis (g ∷ gs) is =
     let parts = and_split (basis g.op) (are_in basis gs) is in
-    let later : HaveOperatorsIn basis gs = in_all basis gs parts.1 in
-    record { each = each_of parts.0 later }
-  where
-    each_of : basis g.op ≡ true → HaveOperatorsIn basis gs → (i : ℕ) (h : Gate) → slice_get (g ∷ gs) i ≡ Some h →
-        basis h.op ≡ true
-
-    some_same : (a b : Gate) → Some a ≡ Some b → a ≡ b
-    some_same a b e = cc
-    each_of own later zero h at = subst (λ (x : Gate). basis x.op ≡ true) (some_same g h at) own
-    each_of own later (suc i) h at = later.each i h at
+    record { each = one_more_in basis g gs parts.0 (in_all basis gs parts.1) }
 
 -- a net whose gates are of the basis is over it
 pub itself_over : (basis : Basis) (n : Net) → IsNet n → are_in basis n.gates ≡ true → length n.gates ≤ most_gates →

@@ -12,6 +12,7 @@ use Rattle.net_basis.specs.Conversion.{lengths_by, MayEndAt, IsGateAnswer}
 use Rattle.net_basis.proofs.Placements.{nodes_put}
 use Rattle.net_basis.proofs.Conversions.{converted_first, left_start, left_more, next_stands, next_within, gate_later}
 use Rattle.net_basis.proofs.Conversions.{moved_at, converted_next, inexpressible_next, most_split}
+use Rattle.net_basis.proofs.Locals.{moved_word}
 use Rattle.net_basis.proofs.Lengths.{too_many_at, passed_at}
 use Rattle.net_basis.proofs.converting.pass.Goals as goal
 
@@ -53,15 +54,20 @@ express-requires-clause-gate c =
     (next_stands c.args.net.now c.loop-gate.node c.loop-gate.left.now c.in-Some.rest.now c.in-Some.gate.now
     c.gates-left.ensures.net c.in-Some.ensures.cases.0 c.loop-gate.invariant.left))
 
+pub express-requires-clause-function : goal.express-requires-clause-function
+express-requires-clause-function c =
+    moved_word (nodes_of c.loop-gate.nodes) c.in-Some.gate.now c.moved_operands-mapped.result c.local_word-word.result
+    c.local_word-word.ensures c.moved_operands-mapped.ensures
+
 pub returns-in-Cannot-clause-answer : goal.returns-in-Cannot-clause-answer
 returns-in-Cannot-clause-answer c =
-    let is : IsInexpressible (members c.args.basis) c.moved_operands-mapped.result.op =
-    subst (IsGateAnswer (members c.args.basis)
-    (lengths_by (members c.args.basis) c.args.recipes.now c.moved_operands-mapped.result.op)
+    let is : IsInexpressible (members c.args.basis) c.local_word-word.result =
+    subst (IsGateAnswer (members c.args.basis) c.local_word-word.result
+    (lengths_by (members c.args.basis) c.args.recipes.now c.local_word-word.result)
     c.sources-sources.result c.loop-gate.gates.items c.express.new.gates.items c.moved_operands-mapped.result) c.in-Cannot.is c.in_ok-sig.ensures.answer in
     inexpressible_next (members c.args.basis) c.args.net.now c.loop-gate.node c.loop-gate.left.now c.in-Some.rest.now
     c.in-Some.gate.now c.in-Some.ensures.cases.0 c.loop-gate.invariant.left
-    (subst (λ (g : Gate). IsInexpressible (members c.args.basis) g.op) c.moved_operands-mapped.ensures is)
+    (subst (IsInexpressible (members c.args.basis)) c.local_word-word.ensures is)
 
 pub loop-gate-preserved : goal.loop-gate-preserved
 loop-gate-preserved c =
@@ -74,8 +80,8 @@ loop-gate-preserved c =
     c.loop-gate.invariant.left in
     let answer : IsExpressed (members c.args.basis) c.sources-sources.result old new c.moved_operands-mapped.result.a
     c.moved_operands-mapped.result.b c.moved_operands-mapped.result.op c.in-By.sig =
-    subst (IsGateAnswer (members c.args.basis) (lengths c.moved_operands-mapped.result.op) c.sources-sources.result old new
-    c.moved_operands-mapped.result)
+    subst (IsGateAnswer (members c.args.basis) c.local_word-word.result (lengths c.local_word-word.result)
+    c.sources-sources.result old new c.moved_operands-mapped.result)
     c.in-By.is c.in_ok-sig.ensures.answer in
     let gate : Gate = moved_gate nodes c.in-Some.gate.now in
     let expressed : IsExpressed (members c.args.basis) c.args.net.now.sources old new gate.a gate.b gate.op c.in-By.sig =
@@ -96,7 +102,7 @@ loop-gate-preserved c =
         arith,
         c.in_ok-sig.ensures.more,
         c.loop-gate.invariant.fewer,
-        ap (λ (g : Gate). lengths g.op) c.moved_operands-mapped.ensures,
+        ap lengths c.local_word-word.ensures,
         most_split lengths c.loop-gate.left.now c.in-Some.rest.now c.in-Some.gate.now split,
       );
     }
@@ -105,14 +111,14 @@ pub returns-in-TooMany-clause-answer : goal.returns-in-TooMany-clause-answer
 returns-in-TooMany-clause-answer c =
     let lengths : ℕ → ℕ = lengths_by (members c.args.basis) c.args.recipes.now in
     let ends : MayEndAt c.sources-sources.result (length c.loop-gate.gates.items)
-    (lengths c.moved_operands-mapped.result.op) =
-    subst (IsGateAnswer (members c.args.basis) (lengths c.moved_operands-mapped.result.op) c.sources-sources.result
-    c.loop-gate.gates.items c.express.new.gates.items c.moved_operands-mapped.result) c.in-TooMany.is
+    (lengths c.local_word-word.result) =
+    subst (IsGateAnswer (members c.args.basis) c.local_word-word.result (lengths c.local_word-word.result)
+    c.sources-sources.result c.loop-gate.gates.items c.express.new.gates.items c.moved_operands-mapped.result) c.in-TooMany.is
     c.in_ok-sig.ensures.answer in
     too_many_at (members c.args.basis) c.args.recipes.now c.args.net.now c.sources-sources.result
-    (length c.loop-gate.gates.items) c.moved_operands-mapped.result.op c.in-Some.gate.now c.loop-gate.left.now
+    (length c.loop-gate.gates.items) c.local_word-word.result c.in-Some.gate.now c.loop-gate.left.now
     c.in-Some.rest.now c.requires.recipes c.in-Some.ensures.cases.0 c.sources-sources.ensures.sources
-    (ap (λ (g : Gate). g.op) c.moved_operands-mapped.ensures)
+    c.local_word-word.ensures
     (omega (arith, c.loop-gate.invariant.fewer, c.loop-gate.gates.ok.0)) ends
 
 pub returns-clause-answer : goal.returns-clause-answer
