@@ -22,7 +22,6 @@ use Rattle.bench_core.specs.Gates.{constant_line, unary_line, binary_key, binary
 use Rattle.net_basis.specs.DocumentOver.{is_unary_over, is_cover_over}
 use Rattle.net_basis.specs.DocumentOver.{is_table_over, IsDocumentOver}
 use Rattle.net_basis.specs.OverBasis.{HaveOperatorsIn}
-
 use Rattle.basis_laws.specs.TablesOver.{NeedsNot, merged_by, pair_over, KeepsOver, FitsGate, AreOver, tables_over}
 
 -- ---- BLIF with the rows of 1

@@ -222,17 +222,6 @@ unfolding are_in
 in_more basis left rest g split is =
     sym (ap (λ (b : Bool). b && are_in basis rest) is) ∙ sym (ap (are_in basis) split)
 
-pub in_other : (basis : Basis) (left rest : List Gate) (g : Gate) → left ≡ g ∷ rest → basis g.op ≡ false →
-    are_in basis left ≡ false
-unfolding are_in
-in_other basis left rest g split isnt =
-    ap (are_in basis) split ∙ ap (λ (b : Bool). b && are_in basis rest) isnt
-
-pub in_none : (basis : Basis) (left : List Gate) → length left ≡ 0 → are_in basis left ≡ true
-unfolding are_in
-in_none basis [] none = refl
-in_none basis (g ∷ gs) none = absurd (omega (arith, none))
-
 -- ---- the net
 
 sink_known : (n : Net) (i : ℕ) (s : Sig) → IsNet n → slice_get n.sinks i ≡ Some s → (p : ℕ) → s ≡ Node p → IsNodeBelow (end_of n) p

@@ -17,7 +17,7 @@ use Rattle.net_basis.specs.Joins.{operands, makes}
 use Rattle.net_basis.specs.LocalWord.{local_word}
 use Rattle.net_basis.specs.OverBasis.{IsInexpressible, HasChainOf, AreLengths, MayHaveTooMany, most_for_one, most_over}
 use Rattle.net_basis.specs.Placing.{IsRecipe, AreRecipes, IsConverted, AreLeft}
-use Rattle.net_basis.specs.Conversion.{is_made_of, steps_of, lengths_by, MayEndAt, IsGateAnswer, IsPassed}
+use Rattle.net_basis.specs.Conversion.{steps_of, lengths_by, MayEndAt, IsGateAnswer, IsPassed}
 use Rattle.net_basis.proofs.Conversions.{most_split, most_none}
 
 pub differ : {A : Type 0} (b : Bool) → b ≡ true → b ≡ false → A

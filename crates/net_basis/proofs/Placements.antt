@@ -7,7 +7,7 @@ use Rattle.chain_theory.specs.Value.{extended}
 use Rattle.chain_theory.specs.ValueLaws.{extended-other}
 use Rattle.op_basis.specs.Laws.{operator_values}
 use Rattle.net_theory.specs.declared.data.Sig.{Sig}
-use Rattle.net_theory.specs.declared.data.Sig.TheVariants.{Zero, One, Node}
+use Rattle.net_theory.specs.declared.data.Sig.TheVariants.{Zero, Node}
 use Rattle.net_theory.specs.declared.data.Gate.{Gate}
 use Rattle.net_theory.specs.Net.{IsSigBelow, IsGateAt, AreGates, sig_value, gate_value, values_of}
 use Rattle.net_theory.specs.ValueLaws.{ExtendsGates, grown_none, grown_more, grown_push, grown_sig, grown_below, value-last, at_push}

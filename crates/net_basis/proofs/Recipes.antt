@@ -8,7 +8,7 @@ use Rattle.net_theory.specs.ValueLaws.{at_push}
 use Rattle.net_basis.specs.declared.join.Join.{Join}
 use Rattle.net_basis.specs.declared.recipe.Recipe.{Recipe}
 use Rattle.net_basis.specs.Joins.{operands, makes}
-use Rattle.net_basis.specs.OverBasis.{IsInexpressible, most_for_one}
+use Rattle.net_basis.specs.OverBasis.{most_for_one}
 use Rattle.net_basis.specs.Placing.{IsClosure, IsRecipe, AreRecipes}
 
 pub record AreFirstRecipes (basis : Basis) (bound : ℕ) (rs : List Recipe) : Type 0 where

@@ -105,4 +105,5 @@ net_with n k = record { sources = n.sources; gates = k.gates; sinks = map (moved
 pub record AreLeft (n : Net) (node : ℕ) (left : List Gate) : Type 0 where
   pub all : node + length left ≡ n.sources + 1 + length n.gates
   pub past_sources : n.sources + 1 ≤ node
-  pub each : (i j : ℕ) (g : Gate) → slice_get left i ≡ Some g → n.sources + 1 + j ≡ node + i → slice_get n.gates j ≡ Some g
+  pub each : (i j : ℕ) (g : Gate) → slice_get left i ≡ Some g → n.sources + 1 + j ≡ node + i →
+      slice_get n.gates j ≡ Some g

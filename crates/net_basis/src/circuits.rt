@@ -42,8 +42,9 @@ fn net_of_circuit(alloc: Global, circuit: &Circuit, basis: Basis) -> Result<NetO
     net_over(alloc, &circuit.net, basis)
 }
 
-/// The circuit over a basis: itself, if each gate has an operator of the basis. Or else each gate of another operator is
-/// replaced by a least chain of gates over the basis, and a constant or a copy by its signal. An error means that memory ran out.
+/// The circuit over a basis: itself, if each gate has an operator of the basis. Or else a least chain of gates over the
+/// basis takes the place of each gate of another operator, and a signal that of a constant or a copy. An error means that
+/// memory ran out.
 pub fn over_basis(alloc: Global, circuit: Circuit, basis: Basis) -> Result<Converted, AllocError>
     requires { IsProper circuit }
     ensures over { IfOk result (λ all. IfOver all (IsCircuitOver (members basis) circuit)) }

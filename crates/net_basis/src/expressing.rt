@@ -1,5 +1,5 @@
-//! One gate of a net over a basis. A gate with an operator of the basis stays. Any other is the chain of its function of
-//! its different signals, before or after its operands were mapped; a constant and a copy need no gate.
+//! One gate of a net over a basis. A constant and a copy need no gate, and a gate with an operator of the basis stays.
+//! Any other is the chain of its function of its different signals, before or after its operands were mapped.
 ghost use Rattle.std.specs.Prelude.{◌≡◌, ◌+◌, ◌≤◌, ◌<◌, ◌^◌, true, false, length, IfOk, OnOk, IfSome, IfNone, vec_len};
 ghost use Rattle.std.specs.Prelude.{slice_get, Some};
 ghost use Rattle.op_basis.specs.Basis.{members};
@@ -113,7 +113,8 @@ fn keep(
     requires few { vec_len gates.old ≤ most_gates }
     requires room { sources + vec_len gates.old < 2 ^ 31 }
     requires member { IsMemberFor (members basis) gate.now member }
-    ensures answer { IfOk result (IsGateAnswer (members basis) word 1 sources gates.old.items gates.new.items gate.now) }
+    ensures answer { IfOk result (IsGateAnswer (members basis) word 1 sources gates.old.items gates.new.items
+        gate.now) }
     ensures few { OnOk result (vec_len gates.new ≤ most_gates) }
     ensures room { OnOk result (sources + vec_len gates.new < 2 ^ 31) }
     ensures more { OnOk result (vec_len gates.new ≤ vec_len gates.old + 1) }
@@ -240,7 +241,8 @@ fn by_recipe(
     replace(basis, recipe, function, sources, gates, word, gate)
 }
 
-/// Appends the gates of a gate's value, by its function `word` of its different signals before its operands were mapped.
+/// Appends the gates of a gate's value, by its function `word` of its different signals before its operands were
+/// mapped.
 pub fn express(
     basis: Basis,
     recipes: &[Recipe],

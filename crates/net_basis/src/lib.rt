@@ -1,7 +1,7 @@
 //! Circuits over a basis and nothing else: a NAND netlist, or an AIG whose complements are free (`u2`).
 //!
-//! A net whose gates have operators of the basis stays as it is. Otherwise each gate of another operator is replaced by a
-//! least chain of gates over the basis for its function of its different signals (`local`). The sixteen functions have
+//! A net whose gates have operators of the basis stays as it is. Otherwise each gate of another operator is replaced by
+//! a least chain of gates over the basis for its function of its different signals (`local`). The sixteen functions have
 //! at most one chain each, which is found once (`least`) and tested by the functions of its steps (`join`). Where there
 //! is none, the closure of both operands and the constants under the basis (`closure`) is a set of functions without
 //! it, so the basis can't express it. A constant is a signal and needs no gate, nor does a copy.

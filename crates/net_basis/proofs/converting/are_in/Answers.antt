@@ -1,6 +1,6 @@
 use Rattle.std.proofs.Common.{◌∙◌, sym}
 use Rattle.op_basis.specs.Basis.{members}
-use Rattle.net_basis.proofs.Conversions.{in_more, in_other, in_none}
+use Rattle.net_basis.proofs.Conversions.{in_more}
 use Rattle.net_basis.proofs.converting.are_in.Goals as goal
 
 pub loop-gate-preserved : goal.loop-gate-preserved

@@ -1,5 +1,5 @@
 -- The recipe of the chosen function, or none.
-use Rattle.std.proofs.Common.{◌≡◌, ◌≤◌, ◌∙◌, length, ap, subst, arith, vec_len}
+use Rattle.std.proofs.Common.{◌≤◌, ◌∙◌, length, ap, subst, arith, vec_len}
 use Rattle.std.specs.List.{slice_get}
 use Rattle.op_basis.specs.Basis.{members}
 use Rattle.net_basis.specs.OverBasis.{IsInexpressible}

@@ -1,5 +1,5 @@
 -- The chain of the gate as it is now.
-use Rattle.std.proofs.Common.{◌≡◌, ◌∙◌, true, ap, sym, arith}
+use Rattle.std.proofs.Common.{◌∙◌, ap, sym, arith}
 use Rattle.net_basis.specs.Conversion.{is_made_of, steps_of}
 use Rattle.net_basis.proofs.Locals.{own_word}
 use Rattle.net_basis.proofs.Lengths.{differ}

@@ -1,5 +1,5 @@
 -- A signal, a gate of the basis, or the chain of a recipe.
-use Rattle.std.proofs.Common.{◌≡◌, ◌≤◌, ◌∙◌, refl, sym, vec_len, arith}
+use Rattle.std.proofs.Common.{refl, vec_len, arith}
 use Rattle.std.specs.List.{slice_get}
 use Rattle.op_basis.specs.Basis.{members}
 use Rattle.net_basis.specs.Conversion.{steps_of, lengths_by}
