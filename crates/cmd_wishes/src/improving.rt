@@ -28,7 +28,7 @@ use std::marker::PhantomData;
 
 /// The wishes that a format can have: AIGER has no wish for a basis.
 fn wishes_for(format: NetFormat, wishes: Wishes) -> Wishes
-    ensures for { result ≡ wishes_for_of format wishes }
+    ensures value { result ≡ wishes_for_of format wishes }
     ensures only { format ≡ Aiger → result.only ≡ false }
 {
     match format {
@@ -143,13 +143,6 @@ impl<'a, S: Solver, T: Tell> Replier for ImproveWished<'a, S, T> {
             return Err(Stop::NoAnswer(empty(b"Empty")));
         }
         let wishes = wishes_for(self.format, self.wishes);
-        reply_to::<S, T>(
-            alloc,
-            self.format,
-            bytes,
-            self.settings,
-            wishes,
-            self.tell,
-        )
+        reply_to::<S, T>(alloc, self.format, bytes, self.settings, wishes, self.tell)
     }
 }

@@ -29,16 +29,16 @@ pub(crate) const NETLISTS: &[Entry] = &[
         name: b"CannotExpress",
         place: Place::Nowhere,
         says: &[Part::Text(
-            b"no gates over --basis compute its operator; the name is that of `improve --cap 0`",
+            b"gates over --basis can't make this gate, as `improve --cap 0` names it; allow more operators",
         )],
     },
     Entry {
         name: b"TooManyOverBasis",
         place: Place::Nowhere,
         says: &[
-            Part::Text(b"over --basis the netlist would have more than "),
+            Part::Text(b"over --basis the netlist could have more than "),
             Part::Number(MOST_GATES),
-            Part::Text(b" gates"),
+            Part::Text(b" gates; allow more operators, or improve it without --only first"),
         ],
     },
     Entry {

@@ -94,6 +94,12 @@ const LINES: &[(Subject, &str, &str, &str)] = &[
         "a: 101873 gates; at most 100000\n",
     ),
     (
+        Subject::Blif,
+        "error: CannotExpress y",
+        NETLIST,
+        "a: gates over --basis can't make this gate, as `improve --cap 0` names it; allow more operators\n",
+    ),
+    (
         Subject::Bench,
         "error: DrivenTwice y",
         GATES,

@@ -76,6 +76,10 @@ const WRONG: &[(&str, &str)] = &[
         "batsokemi: --only takes yes, no, and not 'maybe' (batsokemi help improve)\n",
     ),
     (
+        "improve --only yes a.aag",
+        "batsokemi: --only goes with BLIF and BENCH: AIGER has AND gates alone (batsokemi help improve)\n",
+    ),
+    (
         "improve --covers few a",
         "batsokemi: --covers takes rows, least, and not 'few' (batsokemi help improve)\n",
     ),

@@ -3,6 +3,8 @@
 #![tactic(auto)]
 
 #[cfg(test)]
+mod bases;
+#[cfg(test)]
 mod covers;
 #[cfg(test)]
 mod reports;

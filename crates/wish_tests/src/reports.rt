@@ -74,6 +74,8 @@ const XOR: &[u8] = b".model m\n.inputs a b\n.outputs y\n.names a b y\n01 1\n10 1
 
 const AND: &[u8] = b".model m\n.inputs a b\n.outputs y\n.names a b y\n11 1\n.end\n";
 
+const NOT: &[u8] = b".model m\n.inputs a b\n.outputs y\n.names a y\n0 1\n.end\n";
+
 const COPY: &[u8] = b".model m\n.inputs a b\n.outputs y\n.names a y\n1 1\n.end\n";
 
 /// XOR, and an AND that nothing reads.
@@ -120,7 +122,11 @@ fn netlists_are_over_nand(rt: HostRuntime) {
 }
 
 /// A netlist, and its report over XOR alone, or the name of the gate that XOR can't express.
-const OVER_XOR: &[(&[u8], &[u8])] = &[(AND, b"y"), (UNREAD, b"gates 1 -> 1\nsettled\n")];
+const OVER_XOR: &[(&[u8], &[u8])] = &[
+    (AND, b"y"),
+    (UNREAD, b"gates 1 -> 1\nsettled\n"),
+    (NOT, b"gates 1 -> 1\nsettled\n"),
+];
 
 #[test]
 fn gates_that_are_read_are_expressed(rt: HostRuntime) {
