@@ -46,7 +46,7 @@ not_by basis op true e low member makes =
 not_by basis op false e low member makes = refl
 
 -- an operator of the basis that makes NOT
-some_not : (basis : Basis) (op : ℕ) → op < 16 → basis op ≡ true → makes_not op ≡ true → has_not basis ≡ true
+pub some_not : (basis : Basis) (op : ℕ) → op < 16 → basis op ≡ true → makes_not op ≡ true → has_not basis ≡ true
 some_not basis op low member makes = not_by basis op (every (has_no_not_at basis)) refl low member makes
 
 turned : (z o : Bool) → z ≡ true → o ≡ false → (z && not o) ≡ true

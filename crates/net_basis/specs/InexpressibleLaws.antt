@@ -37,7 +37,7 @@ both true true e f = refl
 both true false e f = absurd cc
 both false b e f = absurd cc
 
-closed_joined : (basis : Basis) (known : ℕ → Bool) (p u v : ℕ) → is_closed basis known ≡ true → p < 16 → u < 16 → v < 16 →
+pub closed_joined : (basis : Basis) (known : ℕ → Bool) (p u v : ℕ) → is_closed basis known ≡ true → p < 16 → u < 16 → v < 16 →
     basis p ≡ true → known u ≡ true → known v ≡ true → known (joined p u v) ≡ true
 unfolding has_all_joined has_joined_on has_joined
 closed_joined basis known p u v closed low_p low_u low_v member first second =
