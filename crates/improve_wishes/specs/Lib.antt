@@ -1,3 +1,4 @@
+pub mod AgainLaws
 pub mod BaseLaws
 pub mod Covers
 pub mod LevelsReport
