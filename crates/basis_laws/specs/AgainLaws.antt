@@ -284,21 +284,22 @@ implied true true never = absurd (never refl refl)
 implied true false never = refl
 implied false b never = refl
 
--- A closed set has NOT where the basis makes it.
-not_known : (basis : Basis) (known : ℕ → Bool) → Has basis known → has_not basis ≡ true → known 12 ≡ true
-unfolding has_no_not_at
-not_known basis known has is = by_case (known 12) refl
-  where
-    by_case : (k : Bool) → known 12 ≡ k → known 12 ≡ true
-    by_case true e = e
-    by_case false e =
-        absurd (both (every (has_no_not_at basis)) (each_every (has_no_not_at basis) (λ op low.
-        implied (basis op) (makes_not op) (λ member makes.
-        differ (known 12) (makes_known basis known op has low member makes) e))) is)
+turned_back : (b : Bool) → b ≡ true → not b ≡ true → ⊥
+turned_back true e f = cc
+turned_back false e f = cc
 
-    both : (b : Bool) → b ≡ true → not b ≡ true → ⊥
-    both true e f = cc
-    both false e f = cc
+-- A closed set has NOT where the basis makes it.
+not_by_case : (basis : Basis) (known : ℕ → Bool) (k : Bool) → known 12 ≡ k → Has basis known → has_not basis ≡ true →
+    known 12 ≡ true
+unfolding has_no_not_at
+not_by_case basis known true e has is = e
+not_by_case basis known false e has is =
+    absurd (turned_back (every (has_no_not_at basis)) (each_every (has_no_not_at basis) (λ op low.
+    implied (basis op) (makes_not op) (λ member makes.
+    differ (known 12) (makes_known basis known op has low member makes) e))) is)
+
+not_known : (basis : Basis) (known : ℕ → Bool) → Has basis known → has_not basis ≡ true → known 12 ≡ true
+not_known basis known has is = not_by_case basis known (known 12) refl has is
 
 first_low : (s : Sig) → first_word s < 16
 first_low Zero = omega arith
