@@ -1,7 +1,7 @@
 -- What is written of a circuit over a basis is over the basis: in BLIF with either covers, and in BENCH.
 use Rattle.std.specs.Prelude.{◌≡◌, ℕ, ◌<◌, Bool, true, false, ◌==◌, ◌||◌, refl}
 use Rattle.std.specs.Prelude.{[], ◌∷◌, ◌++◌, slice_get, Some, All}
-use Rattle.std.proofs.Common.{sym, ◌∙◌, subst}
+use Rattle.std.proofs.Common.{sym, ◌∙◌, subst, map-id}
 use Rattle.std.proofs.lemmas.Bool.{eqb-true}
 use Rattle.chain_theory.specs.Operator.{apply, Basis}
 use Rattle.op_basis.specs.Closed.{of_values}
