@@ -29,7 +29,7 @@ use Rattle.frame_core.specs.Task.{HasReply, Refuses}
 use Rattle.cmd_improve.specs.ImproveReport.{improve_reply, improve_refusal}
 use Rattle.cmd_improve.specs.NamedReport.{Empty, Faulty, empty_refusal}
 use Rattle.cmd_wishes.specs.WishReport.{wants_binary, Improved, CannotExpress, TooLarge, wished_format, IsAnswer}
-use Rattle.cmd_wishes.specs.WishReport.{answered_task}
+use Rattle.cmd_wishes.specs.WishReport.{wishes_for, wished_task}
 use Rattle.cmd_wishes.specs.Replies.{StandsFor, IsReplyOf}
 
 -- ---- the text of an improved netlist
@@ -47,7 +47,7 @@ plain : (settings : ImproveSettings) (w : Wishes) (bytes text report : List ℕ)
 plain settings w bytes text report is = ap is_binary is.spelled ∙ circuit_plain is.circuit
 
 answered : (format : NetFormat) (settings : ImproveSettings) (w : Wishes) (bytes text answer report : List ℕ)
-    (binary : Bool) → IsWished (wished_format format w) settings w bytes text report →
+    (binary : Bool) → IsWished (wished_format format w) settings (wishes_for format w) bytes text report →
     binary ≡ wants_binary format w.form bytes → ascii_in answer ≡ ascii_in text → (binary ≡ false → answer ≡ text) →
     IsAnswer format settings w bytes (Improved (record { text = answer; report = report }))
 answered Blif settings w bytes text answer report binary is wants stands same =
@@ -55,8 +55,8 @@ answered Blif settings w bytes text answer report binary is wants stands same =
 answered Bench settings w bytes text answer report binary is wants stands same =
     (subst (λ (t : List ℕ). IsWished (format_of Bench) settings w bytes t report) (sym (same wants)) is, tt)
 answered Aiger settings w bytes text answer report binary is wants stands same =
-    let in_ascii = plain settings w bytes text report is in (
-      subst (λ (t : List ℕ). IsWished aiger_forms settings w bytes t report)
+    let in_ascii = plain settings (wishes_for Aiger w) bytes text report is in (
+      subst (λ (t : List ℕ). IsWished aiger_forms settings (wishes_for Aiger w) bytes t report)
           (sym (stands ∙ ascii_plain text in_ascii)) is,
       λ ascii. ap is_binary (same (wants ∙ ascii)) ∙ in_ascii,
     )
@@ -65,8 +65,8 @@ answered Aiger settings w bytes text answer report binary is wants stands same =
 
 pub replied : (format : NetFormat) (settings : ImproveSettings) (w : Wishes) (bytes : List ℕ) (wished : WishedText)
     (binary : Bool) (reply : Reply) → length bytes ≤ most_of_netlist → is_bare bytes ≡ false →
-    IsWishedText (wished_format format w) settings w bytes wished → binary ≡ wants_binary format w.form bytes →
-    IsReplyOf binary wished reply → HasReply (answered_task format settings w) bytes reply
+    IsWishedText (wished_format format w) settings (wishes_for format w) bytes wished → binary ≡ wants_binary format w.form bytes →
+    IsReplyOf binary wished reply → HasReply (wished_task format settings w) bytes reply
 replied format settings w bytes (texts.Text i) binary reply within said is wants of = record {
   answer = Improved (record { text = of.answer; report = i.report.items });
   has = record {
@@ -100,7 +100,7 @@ text_replied binary text report answer answer_report reply stands same told is =
 pub refuses : (format : NetFormat) (settings : ImproveSettings) (w : Wishes) (bytes : List ℕ) (e : NetError)
     (refusal : Refusal) → length bytes ≤ most_of_netlist → is_bare bytes ≡ false → (e ≡ nets.Memory → ⊥) →
     IsRefusedText (format_of format) bytes e → refusal ≡ improve_refusal e →
-    Refuses (answered_task format settings w) bytes refusal
+    Refuses (wished_task format settings w) bytes refusal
 refuses format settings w bytes e refusal within said other fault is = record {
   fault = Faulty e;
   meets = record { within = within; said = said; fault = (fault, other) };
@@ -109,7 +109,7 @@ refuses format settings w bytes e refusal within said other fault is = record {
 
 pub refuses_bare : (format : NetFormat) (settings : ImproveSettings) (w : Wishes) (bytes : List ℕ) (refusal : Refusal) →
     length bytes ≤ most_of_netlist → is_bare bytes ≡ true → refusal ≡ empty_refusal (codes "Empty") →
-    Refuses (answered_task format settings w) bytes refusal
+    Refuses (wished_task format settings w) bytes refusal
 refuses_bare format settings w bytes refusal within bare is = record {
   fault = Empty;
   meets = record { within = within; bare = bare };

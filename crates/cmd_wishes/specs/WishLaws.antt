@@ -21,7 +21,7 @@ use Rattle.cmd_lines.specs.NetLineLaws.{status_kind}
 use Rattle.cmd_improve.specs.ImproveReport.{improve_refusal}
 use Rattle.cmd_improve.specs.NamedReport.{NamedFault, Empty, Faulty, empty_refusal, named_refusal}
 use Rattle.cmd_wishes.specs.WishReport.{WishAnswer, Improved, CannotExpress, TooLarge, wish_reply, wished_format}
-use Rattle.cmd_wishes.specs.WishReport.{IsAnswer, IsWishAnswer, HasWishFault, answered_task, wishes_for, wished_task}
+use Rattle.cmd_wishes.specs.WishReport.{IsAnswer, IsWishAnswer, HasWishFault, wished_task}
 
 answer_status : (answer : WishAnswer) → IsAnswerStatus (wish_reply answer).status
 answer_status (Improved i) = inl refl
@@ -77,9 +77,9 @@ few : (format : NetFormat) (bytes : List ℕ) (fault : NamedFault) → HasWishFa
 few format bytes Empty meets = meets.within
 few format bytes (Faulty e) meets = meets.within
 
-answered_is_task : (format : NetFormat) (settings : ImproveSettings) (w : Wishes) →
-    IsTask (answered_task format settings w)
-answered_is_task format settings w =
+pub wished_is_task : (format : NetFormat) (settings : ImproveSettings) (w : Wishes) →
+    IsTask (wished_task format settings w)
+wished_is_task format settings w =
     at_once_task most_of_netlist WishAnswer (IsWishAnswer format settings w) wish_reply NamedFault (HasWishFault format)
     named_refusal
     (λ answer. answer_status answer)
@@ -88,7 +88,3 @@ answered_is_task format settings w =
     (λ bytes a b x y. one format bytes a b x y)
     (λ bytes answer has. has.within)
     (λ bytes fault meets. few format bytes fault meets)
-
-pub wished_is_task : (format : NetFormat) (settings : ImproveSettings) (w : Wishes) →
-    IsTask (wished_task format settings w)
-wished_is_task format settings w = answered_is_task format settings (wishes_for format w)

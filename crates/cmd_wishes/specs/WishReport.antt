@@ -52,6 +52,12 @@ wished_format Blif w = blif_in w.covers
 wished_format Bench w = format_of Bench
 wished_format Aiger w = format_of Aiger
 
+-- the wishes that the format can have: AIGER has gates of its own, and its words are refused with `--only` (`wish_words`)
+abbrev pub wishes_for : NetFormat → Wishes → Wishes
+wishes_for Blif w = w
+wishes_for Bench w = w
+wishes_for Aiger w = record w { only = false }
+
 -- an improved netlist; a gate that the basis can't express, by its name; too many gates over the basis
 pub data WishAnswer : Type 0 where
   Improved : (improvement : Improvement) → WishAnswer
@@ -78,10 +84,11 @@ wish_reply TooLarge = without_text too_large_line
 -- too many over the basis.
 abbrev pub IsAnswer : NetFormat → ImproveSettings → Wishes → List ℕ → WishAnswer → Type 0
 IsAnswer format settings w bytes (Improved i) =
-    IsWished (wished_format format w) settings w bytes (plain_text format i.text) i.report ×
+    IsWished (wished_format format w) settings (wishes_for format w) bytes (plain_text format i.text) i.report ×
     IsInForm format w.form bytes i.text
-IsAnswer format settings w bytes (CannotExpress name) = IsCannotExpress (wished_format format w) settings w bytes name
-IsAnswer format settings w bytes TooLarge = IsTooLarge (wished_format format w) settings w bytes
+IsAnswer format settings w bytes (CannotExpress name) =
+    IsCannotExpress (wished_format format w) settings (wishes_for format w) bytes name
+IsAnswer format settings w bytes TooLarge = IsTooLarge (wished_format format w) settings (wishes_for format w) bytes
 
 -- The text isn't empty, and is a netlist, which has this answer.
 pub record IsWishAnswer (format : NetFormat) (settings : ImproveSettings) (w : Wishes) (bytes : List ℕ)
@@ -103,16 +110,6 @@ abbrev pub HasWishFault : NetFormat → List ℕ → NamedFault → Type 0
 HasWishFault format bytes Empty = IsEmpty bytes
 HasWishFault format bytes (Faulty error) = IsFaulty format bytes error
 
--- the task of wishes that the format can have
-abbrev pub answered_task : NetFormat → ImproveSettings → Wishes → Task
-answered_task format settings w = at_once most_of_netlist WishAnswer (IsWishAnswer format settings w) wish_reply
-    NamedFault (HasWishFault format) named_refusal
-
--- AIGER has gates of its own and no wish for a basis: its words are refused with one (`wish_words`).
-abbrev pub wishes_for : NetFormat → Wishes → Wishes
-wishes_for Blif w = w
-wishes_for Bench w = w
-wishes_for Aiger w = record w { only = false }
-
 abbrev pub wished_task : NetFormat → ImproveSettings → Wishes → Task
-wished_task format settings w = answered_task format settings (wishes_for format w)
+wished_task format settings w = at_once most_of_netlist WishAnswer (IsWishAnswer format settings w) wish_reply
+    NamedFault (HasWishFault format) named_refusal

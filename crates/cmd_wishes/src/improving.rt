@@ -9,7 +9,7 @@ ghost use Rattle.equiv_run.specs.Two.{is_bare as is_bare_of};
 ghost use Rattle.improve_windows.specs.Improving.{FitsFormat};
 ghost use Rattle.improve_wishes.specs.Texts.{IsWishedText};
 ghost use Rattle.frame_core.specs.Views.{Judges};
-ghost use Rattle.cmd_wishes.specs.WishReport.{wished_format, wishes_for as wishes_for_of, answered_task, wished_task};
+ghost use Rattle.cmd_wishes.specs.WishReport.{wished_format, wishes_for, wished_task};
 
 use crate::forms::wants_binary;
 use crate::replying::reply_of_text;
@@ -26,22 +26,7 @@ use settings::ImproveSettings;
 use std::alloc::{AllocError, Global};
 use std::marker::PhantomData;
 
-/// The wishes that a format can have: AIGER has no wish for a basis.
-fn wishes_for(format: NetFormat, wishes: Wishes) -> Wishes
-    ensures value { result ≡ wishes_for_of format wishes }
-    ensures only { format ≡ Aiger → result.only ≡ false }
-{
-    match format {
-        NetFormat::Blif => wishes,
-        NetFormat::Bench => wishes,
-        NetFormat::Aiger => Wishes {
-            only: false,
-            ..wishes
-        },
-    }
-}
-
-/// Improves an AIGER file by wishes.
+/// Improves an AIGER file by wishes, without that for a basis.
 fn wished_file<S: Solver, T: Tell>(
     alloc: Global,
     bytes: &[u8],
@@ -52,11 +37,14 @@ fn wished_file<S: Solver, T: Tell>(
     requires length { length bytes.now ≤ most_of_netlist }
     requires range { IsInRange settings }
     requires basis { FitsFormat (format_of Aiger) settings }
-    requires only { wishes.only ≡ false }
-    ensures wished { IfOk result (IsWishedText (format_of Aiger) settings wishes bytes.now) }
+    ensures wished { IfOk result (IsWishedText (format_of Aiger) settings (wishes_for Aiger wishes) bytes.now) }
     ensures refused { IfErr result (IsRefusedText (format_of Aiger) bytes.now) }
 {
-    let improved = wished_aiger::<S, T>(alloc, bytes, settings, wishes, tell)?;
+    let asked = Wishes {
+        only: false,
+        ..wishes
+    };
+    let improved = wished_aiger::<S, T>(alloc, bytes, settings, asked, tell)?;
     Ok(WishedText::Text(improved))
 }
 
@@ -72,8 +60,8 @@ fn wished_text<S: Solver, T: Tell>(
     requires length { length bytes.now ≤ most_of_netlist }
     requires range { IsInRange settings }
     requires basis { FitsFormat (format_of format) settings }
-    requires only { format ≡ Aiger → wishes.only ≡ false }
-    ensures wished { IfOk result (IsWishedText (wished_format format wishes) settings wishes bytes.now) }
+    ensures wished { IfOk result (IsWishedText (wished_format format wishes) settings (wishes_for format wishes)
+        bytes.now) }
     ensures refused { IfErr result (IsRefusedText (format_of format) bytes.now) }
 {
     match format {
@@ -97,8 +85,7 @@ fn reply_to<S: Solver, T: Tell>(
     requires said { is_bare_of bytes.now ≡ false }
     requires range { IsInRange settings }
     requires basis { FitsFormat (format_of format) settings }
-    requires only { format ≡ Aiger → wishes.only ≡ false }
-    ensures { Judges (answered_task format settings wishes) bytes.now result }
+    ensures { Judges (wished_task format settings wishes) bytes.now result }
 {
     let binary = wants_binary(format, wishes.form, bytes);
     match wished_text::<S, T>(alloc, format, bytes, settings, wishes, tell) {
@@ -142,7 +129,13 @@ impl<'a, S: Solver, T: Tell> Replier for ImproveWished<'a, S, T> {
         if says_nothing {
             return Err(Stop::NoAnswer(empty(b"Empty")));
         }
-        let wishes = wishes_for(self.format, self.wishes);
-        reply_to::<S, T>(alloc, self.format, bytes, self.settings, wishes, self.tell)
+        reply_to::<S, T>(
+            alloc,
+            self.format,
+            bytes,
+            self.settings,
+            self.wishes,
+            self.tell,
+        )
     }
 }
