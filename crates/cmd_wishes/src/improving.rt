@@ -10,7 +10,7 @@ ghost use Rattle.improve_wishes.specs.Wished.{IsWished};
 ghost use Rattle.frame_core.specs.Views.{Judges};
 ghost use Rattle.cmd_wishes.specs.WishReport.{wished_format, wished_task};
 
-use crate::forms::{formed, wants_binary};
+use crate::forms::formed;
 use cmd_improve::{empty, refusal_of, reply_of};
 use equiv_run::is_bare;
 use format_names::NetFormat;
@@ -63,9 +63,8 @@ fn reply_to<S: Solver, T: Tell>(
     requires basis { FitsFormat (format_of format) settings }
     ensures { Judges (wished_task format settings wishes) bytes.now result }
 {
-    let binary = wants_binary(format, wishes.form, bytes);
     match wished_text::<S, T>(alloc, format, bytes, settings, wishes, tell) {
-        Ok(improved) => match formed(alloc, binary, improved) {
+        Ok(improved) => match formed(alloc, format, wishes.form, bytes, improved) {
             Ok(answer) => Ok(reply_of(answer)),
             Err(AllocError) => Err(Stop::NoMemory),
         },
