@@ -1,4 +1,4 @@
--- What is after the key of a symbol.
+-- What is after the key of a symbol, and after some numbers.
 use Rattle.std.proofs.Common.{◌≡◌, ℕ, zero, suc, ◌≤◌, List, [], ◌∷◌, length, drop, refl, ap, arith}
 use Rattle.std.proofs.lemmas.Grind.{common_steps}
 use Rattle.text_core.specs.Items.{items_of, split_from}

@@ -1,18 +1,11 @@
--- Places that are out of range, and sums that a header can say.
-use Rattle.std.proofs.Common.{◌≡◌, ℕ, zero, suc, ◌+◌, ◌^◌, ◌<◌, ◌≤◌, true, List, [], ◌∷◌, length, refl, ap, arith}
-use Rattle.std.specs.Prelude.{◌&&◌, nat_lt, nat_le, slice_set}
+-- Sums that a header can say.
+use Rattle.std.proofs.Common.{◌≡◌, ◌+◌, ◌^◌, ◌<◌, ◌≤◌, true, arith}
+use Rattle.std.specs.Prelude.{nat_lt, nat_le}
 use Rattle.std.proofs.lemmas.Bool.{and_parts, leb-true}
 use Rattle.std.proofs.lemmas.Grind.{common_steps}
 use Rattle.text_core.specs.Limits.{most_number}
 use Rattle.aiger_sections.specs.declared.header.Sections.{Sections}
-use Rattle.aiger_sections.specs.Header.{sections_by, total, is_sectioned}
-
-pub set-out : {A : Type 0} (xs : List A) (k : ℕ) (x : A) → length xs ≤ k → slice_set xs k x ≡ xs
-set-out [] k x high = refl
-set-out (y ∷ ys) zero x high = absurd (omega (arith, high))
-set-out {A} (y ∷ ys) (suc k) x high = ap (λ (zs : List A). y ∷ zs) (set-out ys k x (omega (arith, high)))
-
-pub ruleset sets = (common_steps, set-out)
+use Rattle.aiger_sections.specs.Header.{total, is_sectioned}
 
 pub total_low : (s : Sections) → is_sectioned s ≡ true → total s ≤ most_number
 unfolding is_sectioned

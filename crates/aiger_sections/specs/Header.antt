@@ -1,7 +1,8 @@
 -- The sections of bad states and invariant constraints in a header `aag M I L O A B C J F` (the AIGER 1.9 report), of which
 -- the last four counts may be left out, from any of them on.
-use Rattle.std.specs.Prelude.{ℕ, ◌+◌, ◌∷◌, ◌++◌, ◌&&◌, Bool, nat_lt, nat_le, List, [], Option, Some, None, codes, decimal, slice_index_or, slice_set}
+use Rattle.std.specs.Prelude.{ℕ, ◌+◌, ◌∷◌, ◌++◌, ◌&&◌, Bool, nat_lt, nat_le, List, [], Option, Some, None, codes, decimal, slice_index_or}
 use Rattle.std.specs.List.{flat_map}
+use Rattle.std.proofs.Common.{drop}
 use Rattle.text_core.specs.Items.{items_of}
 use Rattle.text_core.specs.Limits.{most_number}
 use Rattle.text_core.specs.Numbers.{number_up_to}
@@ -47,16 +48,23 @@ is_sectioned s = nat_lt 0 (s.bads + s.constraints) && nat_le (total s) most_numb
 
 -- ---- the header of the plain text
 
--- the numbers with the bad states and constraints counted as outputs
--- Example: of 6, 3, 1, 1, 2, 2 and 1 they are 6, 3, 1, 4, 2, 0 and 0.
+-- the first five numbers, with the bad states and constraints counted as outputs
+-- Example: of 6, 3, 1, 1, 2, 2 and 1 they are 6, 3, 1, 4 and 2.
 abbrev pub plain_numbers : List ℕ → List ℕ
-plain_numbers numbers = slice_set (slice_set (slice_set numbers 3 (total (sections_by numbers))) 5 0) 6 0
+plain_numbers numbers = count_at numbers 0 ∷ count_at numbers 1 ∷ count_at numbers 2 ∷ total (sections_by numbers) ∷
+    count_at numbers 4 ∷ []
+
+-- the numbers after them: no bad state and no constraint, where counts of other properties follow
+abbrev pub more_numbers : List ℕ → List ℕ
+more_numbers [] = []
+more_numbers (n ∷ ns) = 0 ∷ 0 ∷ n ∷ ns
 
 abbrev pub number_text : ℕ → List ℕ
 number_text n = 32 ∷ decimal n
 
-unfoldable pub numbers_line : List ℕ → List ℕ
-numbers_line numbers = codes "aag" ++ flat_map number_text numbers ++ 10 ∷ []
+unfoldable pub plain_header : List ℕ → List ℕ
+plain_header numbers = codes "aag" ++ flat_map number_text (plain_numbers numbers) ++
+    flat_map number_text (more_numbers (drop 7 numbers)) ++ 10 ∷ []
 
 -- how many lines there are of inputs, latches, outputs, bad states, constraints and gates
 unfoldable pub line_count : List ℕ → ℕ

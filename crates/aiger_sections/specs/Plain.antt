@@ -1,7 +1,7 @@
 -- Bad states and invariant constraints of an AIGER text (the AIGER 1.9 report) as further outputs. Their literals stand after
 -- the outputs, a line each. The plain text of a text with them has the same lines, but its header counts them as outputs, and
 -- each of their symbols names the output that it became. So the first bad state is the output after the last one.
--- Example: that of `aag 2 2 0 1 0 1`, `2`, `4`, `2`, `5`, `b0 p` is `aag 2 2 0 2 0 0`, `2`, `4`, `2`, `5`, `o1 p`.
+-- Example: that of `aag 2 2 0 1 0 1`, `2`, `4`, `2`, `5`, `b0 p` is `aag 2 2 0 2 0`, `2`, `4`, `2`, `5`, `o1 p`.
 use Rattle.std.specs.Prelude.{ℕ, ◌+◌, ◌-◌, ◌==◌, ◌&&◌, Bool, nat_lt, if◌then◌else◌, List, [], ◌∷◌, ◌++◌, length, Option, Some, None, decimal}
 use Rattle.std.proofs.Common.{drop}
 use Rattle.text_core.specs.Items.{split_from}
@@ -11,7 +11,7 @@ use Rattle.text_core.specs.Numbers.{number_up_to}
 use Rattle.aiger_binary.specs.Ascii.{ascii_in}
 use Rattle.aiger_sections.specs.declared.header.Sections.{Sections}
 use Rattle.aiger_sections.specs.declared.symbols.Places.{Places}
-use Rattle.aiger_sections.specs.Header.{header_numbers, sections_by, is_sectioned, plain_numbers, numbers_line, line_count}
+use Rattle.aiger_sections.specs.Header.{header_numbers, sections_by, is_sectioned, plain_header, line_count}
 
 -- ---- symbols
 
@@ -60,7 +60,7 @@ lines_in s kept (l ∷ ls) = line_bytes (line_at s kept l) ++ lines_in s (kept -
 
 abbrev pub plain_with : List ℕ → List Line → List ℕ → List ℕ
 plain_with bytes ls numbers = if is_sectioned (sections_by numbers)
-    then numbers_line (plain_numbers numbers) ++ lines_in (sections_by numbers) (line_count numbers) ls else bytes
+    then plain_header numbers ++ lines_in (sections_by numbers) (line_count numbers) ls else bytes
 
 abbrev pub plain_by : List ℕ → List Line → List ℕ
 plain_by bytes [] = bytes

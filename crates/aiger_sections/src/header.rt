@@ -1,6 +1,6 @@
 //! The counts of a header.
 
-ghost use Rattle.std.specs.Prelude.{◌≡◌, ◌++◌, true, slice_set, IfOk, OnOk};
+ghost use Rattle.std.specs.Prelude.{◌≡◌, [], ◌++◌, drop, true, IfOk, OnOk};
 ghost use Rattle.std.specs.List.{flat_map};
 ghost use Rattle.text_core.specs.Items.{items_of};
 ghost use Rattle.aiger_sections.specs.Header as spec;
@@ -83,28 +83,6 @@ pub(crate) fn is_sectioned(sections: Sections) -> bool
         && total(sections) <= u64::from(MOST_NUMBER)
 }
 
-/// Sets the number at a place, if there is one.
-#[tactic(auto, using(crate::proofs::Numbers::sets))]
-fn set_number(numbers: &mut Vec<u32>, place: usize, number: u32)
-    ensures { numbers.new.items ≡ slice_set numbers.old.items place number }
-{
-    if place < numbers.len() {
-        numbers[place] = number;
-    }
-}
-
-/// Counts the bad states and constraints as outputs.
-#[tactic(auto, using(crate::proofs::Numbers::totals))]
-fn count_as_outputs(numbers: &mut Vec<u32>)
-    requires { spec.is_sectioned (spec.sections_by numbers.old.items) ≡ true }
-    ensures { numbers.new.items ≡ spec.plain_numbers numbers.old.items }
-{
-    let sum = total(sections_by(numbers)) as u32;
-    set_number(numbers, 3, sum);
-    set_number(numbers, 5, 0);
-    set_number(numbers, 6, 0);
-}
-
 /// Adds numbers, each after a blank.
 fn push_items(out: &mut Vec<u8>, numbers: &[u32]) -> Result<(), AllocError>
     ensures { OnOk result (out.new.items ≡ out.old.items ++ flat_map spec.number_text numbers.now) }
@@ -118,27 +96,52 @@ fn push_items(out: &mut Vec<u8>, numbers: &[u32]) -> Result<(), AllocError>
     Ok(())
 }
 
-/// Adds a header with the numbers.
-#[tactic(auto, unfolding(crate::specs::Header::numbers_line))]
-fn push_header(out: &mut Vec<u8>, numbers: &[u32]) -> Result<(), AllocError>
-    ensures { OnOk result (out.new.items ≡ out.old.items ++ spec.numbers_line numbers.now) }
+/// Adds the first five numbers, with the bad states and constraints counted as outputs.
+#[tactic(auto, using(crate::proofs::Numbers::totals))]
+fn push_plain_numbers(out: &mut Vec<u8>, numbers: &[u32]) -> Result<(), AllocError>
+    requires { spec.is_sectioned (spec.sections_by numbers.now) ≡ true }
+    ensures { OnOk result (out.new.items ≡
+        out.old.items ++ flat_map spec.number_text (spec.plain_numbers numbers.now)) }
 {
-    out.extend_from_slice(b"aag")?;
-    push_items(out, numbers)?;
-    out.push(b'\n')?;
-    Ok(())
+    let variables = count_at(numbers, 0);
+    let inputs = count_at(numbers, 1);
+    let latches = count_at(numbers, 2);
+    let outputs = total(sections_by(numbers)) as u32;
+    let gates = count_at(numbers, 4);
+    push_items(out, &[variables, inputs, latches, outputs, gates])
 }
 
-/// The header of the plain text.
-pub(crate) fn plain_header(alloc: Global, numbers: &[u32]) -> Result<Vec<u8>, AllocError>
-    requires { spec.is_sectioned (spec.sections_by numbers.now) ≡ true }
-    ensures { IfOk result (λ t. t.items ≡ spec.numbers_line (spec.plain_numbers numbers.now)) }
+/// Adds the numbers after them.
+fn push_more_numbers(out: &mut Vec<u8>, numbers: &[u32]) -> Result<(), AllocError>
+    ensures { OnOk result (out.new.items ≡
+        out.old.items ++ flat_map spec.number_text (spec.more_numbers numbers.now)) }
 {
-    let mut counted = Vec::from_slice(alloc, numbers)?;
-    count_as_outputs(&mut counted);
-    let mut text = Vec::new(alloc);
-    push_header(&mut text, &counted)?;
-    Ok(text)
+    if numbers.is_empty() {
+        return Ok(());
+    }
+    push_items(out, &[0, 0])?;
+    push_items(out, numbers)
+}
+
+/// The numbers from the eighth on.
+#[tactic(auto, using(crate::proofs::Keys::keys))]
+fn after_seven(numbers: &[u32]) -> &[u32]
+    ensures { result.now ≡ drop 7 numbers.now }
+{
+    if numbers.len() > 7 { &numbers[7..] } else { &[] }
+}
+
+/// Adds the header of the plain text.
+#[tactic(auto, unfolding(crate::specs::Header::plain_header))]
+pub(crate) fn push_plain_header(out: &mut Vec<u8>, numbers: &[u32]) -> Result<(), AllocError>
+    requires { spec.is_sectioned (spec.sections_by numbers.now) ≡ true }
+    ensures { OnOk result (out.new.items ≡ out.old.items ++ spec.plain_header numbers.now) }
+{
+    out.extend_from_slice(b"aag")?;
+    push_plain_numbers(out, numbers)?;
+    push_more_numbers(out, after_seven(numbers))?;
+    out.push(b'\n')?;
+    Ok(())
 }
 
 /// How many lines there are of inputs, latches, outputs, bad states, constraints and gates.

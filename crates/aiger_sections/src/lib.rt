@@ -4,7 +4,7 @@
 //! text back into the sections of another text. The definition is `plain_of` in `specs/Plain`.
 //!
 //! ```text
-//! let text = plain_text(alloc, b"aag 1 1 0 0 0 1\n2\n3\nb0 p\n")?; // "aag 1 1 0 1 0 0\n2\n3\no0 p\n"
+//! let text = plain_text(alloc, b"aag 1 1 0 0 0 1\n2\n3\nb0 p\n")?; // "aag 1 1 0 1 0\n2\n3\no0 p\n"
 //! ```
 #![tactic(auto)]
 

@@ -1,11 +1,11 @@
 //! The plain text, and the sections, of a text.
 
-ghost use Rattle.std.specs.Prelude.{◌≡◌, ◌==◌, ◌&&◌, true, IfOk};
+ghost use Rattle.std.specs.Prelude.{◌≡◌, IfOk};
 ghost use Rattle.text_core.specs.Lines.{lines_of};
 ghost use Rattle.aiger_binary.specs.Ascii.{ascii_in};
 ghost use Rattle.aiger_sections.specs.Plain as spec;
 
-use crate::header::{Sections, header_numbers, is_sectioned, line_count, plain_header, sections_by};
+use crate::header::{Sections, header_numbers, is_sectioned, line_count, push_plain_header, sections_by};
 use crate::lines::push_lines;
 use aiger_binary::{ascii_text, is_binary};
 use std::alloc::{AllocError, Global};
@@ -36,7 +36,8 @@ fn plain_with(
     if !is_sectioned(sections) {
         return Vec::from_slice(alloc, bytes);
     }
-    let mut text = plain_header(alloc, numbers)?;
+    let mut text = Vec::new(alloc);
+    push_plain_header(&mut text, numbers)?;
     push_lines(&mut text, sections, line_count(numbers), rest)?;
     Ok(text)
 }
@@ -87,6 +88,7 @@ pub fn sections(alloc: Global, bytes: &[u8]) -> Result<Sections, AllocError>
 }
 
 /// Whether two texts have as many outputs, bad states and constraints.
+#[tactic(auto, unfolding(crate::specs::Plain::are_same))]
 pub fn same_sections(first: Sections, second: Sections) -> bool
     ensures { result ≡ spec.are_same first second }
 {
