@@ -95,11 +95,7 @@ fn push_gates(out: &mut Vec<u8>, gates: &[AigGate]) -> Result<(), AllocError> {
 }
 
 /// Adds the key of an output.
-fn push_output_key(
-    out: &mut Vec<u8>,
-    sections: Sections,
-    position: u32,
-) -> Result<(), AllocError> {
+fn push_output_key(out: &mut Vec<u8>, sections: Sections, position: u32) -> Result<(), AllocError> {
     let further = position.saturating_sub(sections.outputs);
     let last = further.saturating_sub(sections.bads);
     if position < sections.outputs {

@@ -128,7 +128,11 @@ fn push_more_numbers(out: &mut Vec<u8>, numbers: &[u32]) -> Result<(), AllocErro
 fn after_seven(numbers: &[u32]) -> &[u32]
     ensures { result.now ≡ drop 7 numbers.now }
 {
-    if numbers.len() > 7 { &numbers[7..] } else { &[] }
+    if numbers.len() > 7 {
+        &numbers[7..]
+    } else {
+        &[]
+    }
 }
 
 /// Adds the header of the plain text.

@@ -22,7 +22,14 @@ fn push_header(
     out.extend_from_slice(b"aag")?;
     for place in 0..numbers.len() {
         out.push(b' ')?;
-        push_number(out, if place == 3 { sections.outputs } else { numbers[place] })?;
+        push_number(
+            out,
+            if place == 3 {
+                sections.outputs
+            } else {
+                numbers[place]
+            },
+        )?;
     }
     if sections.bads > 0 || sections.constraints > 0 {
         out.push(b' ')?;

@@ -5,7 +5,9 @@ ghost use Rattle.text_core.specs.Lines.{lines_of};
 ghost use Rattle.aiger_binary.specs.Ascii.{ascii_in};
 ghost use Rattle.aiger_sections.specs.Plain as spec;
 
-use crate::header::{Sections, header_numbers, is_sectioned, line_count, push_plain_header, sections_by};
+use crate::header::{
+    Sections, header_numbers, is_sectioned, line_count, push_plain_header, sections_by,
+};
 use crate::lines::push_lines;
 use aiger_binary::{ascii_text, is_binary};
 use std::alloc::{AllocError, Global};

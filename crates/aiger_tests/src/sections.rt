@@ -68,7 +68,12 @@ const FAULTS: &[(&str, &[u8], &str, u32)] = &[
     ("above M", b"aag 1 1 0 0 0 1\n2\n4\n", "Syntax", 3),
     ("two literals", b"aag 1 1 0 0 0 1\n2\n2 3\n", "Syntax", 3),
     ("a leading 0", b"aag 1 1 0 0 0 01\n2\n3\n", "Syntax", 1),
-    ("ten counts", b"aag 1 1 0 0 0 1 0 0 0 0\n2\n3\n", "Syntax", 1),
+    (
+        "ten counts",
+        b"aag 1 1 0 0 0 1 0 0 0 0\n2\n3\n",
+        "Syntax",
+        1,
+    ),
     (
         "ten digits",
         b"aag 1 1 0 0 0 4294967297\n2\n3\n",
