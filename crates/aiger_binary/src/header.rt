@@ -11,8 +11,8 @@ use text_core::{after, next_item, number_up_to};
 /// The greatest count; `specs/Header` has the same.
 const MOST_COUNT: u32 = 2_097_152;
 
-/// The numbers of a header: the greatest variable, and how many inputs, latches, outputs and gates there are. Bad states
-/// and constraints count as outputs.
+/// The numbers of a header: the greatest variable, and how many inputs, latches, outputs and gates there are. Bad
+/// states and constraints count as outputs.
 #[derive(Clone, Copy)]
 pub(crate) struct Counts {
     pub(crate) variables: u32,

@@ -1,6 +1,6 @@
 -- A text that is read as it is has neither bad states nor constraints, so it is its own plain text.
 use Rattle.std.proofs.Common.{◌≡◌, ℕ, ◌+◌, ◌≤◌, Bool, true, false, List, [], ◌∷◌, ◌++◌, length, Option, Some, None, refl, ap, ◌∙◌, sym, arith}
-use Rattle.std.specs.Prelude.{◌&&◌, ◌||◌, nat_lt, nat_le, if◌then◌else◌, Result, Ok, Err, codes}
+use Rattle.std.specs.Prelude.{◌&&◌, ◌||◌, nat_lt, nat_le, Result, Ok, Err, codes}
 use Rattle.std.proofs.lemmas.Bool.{cond_both, cond-true, cond-false, le-ltb, ltb-false}
 use Rattle.text_core.specs.Items.{items_of}
 use Rattle.text_core.specs.Lines.{Line, lines_of}

@@ -1,5 +1,5 @@
 -- An ASCII text with a plain text and sections.
-use Rattle.std.proofs.Common.{◌≡◌, ℕ, ◌∙◌, true, false, List, ap, refl}
+use Rattle.std.proofs.Common.{◌≡◌, ℕ, ◌∙◌, true, false, List, ap}
 use Rattle.std.specs.Prelude.{◌&&◌, ◌==◌}
 use Rattle.std.proofs.lemmas.Bool.{and_parts, cond-false, eqb-true}
 use Rattle.std.proofs.lemmas.Grind.{common_steps}

@@ -20,7 +20,8 @@ use Rattle.equiv_run.specs.Pairs.{ShareInterface}
 use Rattle.equiv_run.specs.PairLaws.{shared, have_same, answered_of, interface_of}
 use Rattle.equiv_run.specs.CircuitAnswers.{IsCircuitAnswer, IsOther}
 use Rattle.equiv_run.specs.Two.{lacks_sinks}
-use Rattle.equiv_formats.specs.Comparison.{Lists, first_format, second_format, AreNetlists, share_sections, ShareSections, IsFormatsAnswer, SaysNoSink, DifferInInterface, HasFormatsFault, IsFormatsRefused, IsFirstRefused, IsSecondRefused, AreSectionsRefused}
+use Rattle.equiv_formats.specs.Comparison.{Lists, first_format, second_format, AreNetlists, IsFormatsAnswer, SaysNoSink, DifferInInterface, HasFormatsFault, IsFormatsRefused, IsFirstRefused, IsSecondRefused}
+use Rattle.equiv_formats.specs.Comparison.{share_sections, ShareSections, AreSectionsRefused}
 
 -- ---- documents
 
