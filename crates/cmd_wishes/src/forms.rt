@@ -35,10 +35,11 @@ fn formed_aiger(
         spec.wants_binary_form form bytes.now ≡ false → is_binary_of t.items ≡ false) }
 {
     let placed = sectioned(alloc, bytes, text)?;
-    if wants_binary_form(form, bytes) {
-        return pack(alloc, &placed);
+    if !wants_binary_form(form, bytes) {
+        return Ok(placed);
     }
-    Ok(placed)
+    let packed = pack(alloc, &placed)?;
+    Ok(packed)
 }
 
 /// The text of the answer, in the sections of the text that was read, and in the form that is wanted.
