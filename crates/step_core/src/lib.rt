@@ -27,10 +27,13 @@
 //! ```
 #![tactic(auto)]
 
+mod determined;
 mod enumerate;
 mod least_chains;
+mod masks;
 mod outs;
 mod pruning;
+mod refuting;
 mod rules;
 mod stack;
 mod waits;
