@@ -9,7 +9,7 @@ use Rattle.bound_core.specs.Counts.{count_below}
 use Rattle.step_core.specs.Steps.{word_in, is_missing}
 use Rattle.step_core.specs.StepStacks.{StackView}
 use Rattle.step_core.specs.Limits.{most_enumerated_steps}
-use Rattle.step_core.specs.Pruning.{gives_some}
+use Rattle.step_core.specs.Pruning.{due, gives_some}
 use Rattle.step_core.specs.Waits.{is_later}
 use Rattle.step_core.specs.Enumeration.{IsNormalSolution}
 
@@ -65,10 +65,30 @@ pub record AreInConflict (w : Words) (steps : List Step) (reads : ℕ → Bool) 
   pub other_care : digit (slice_index w.care output) other ≡ true
   pub differ : digit (slice_index w.on output) other ≡ digit (slice_index w.on output) row → ⊥
 
--- the stack is one of the words' inputs and has room for `left` more steps
-pub record IsRefuting (w : Words) (t : StackView) (left : ℕ) : Type 0 where
+-- The stack has the inputs of the words, and room for `left` more steps, of which there is at least one; `count` outputs
+-- are due.
+pub record IsOpen (w : Words) (t : StackView) (left count : ℕ) : Type 0 where
   pub inputs : t.n ≡ w.n
   pub room : length t.steps + left ≤ most_enumerated_steps
+  pub some : 1 ≤ left
+  pub due : count ≡ due w t.steps
+
+-- The stack has the inputs of the words, and room for `left` more steps; `count` outputs are due, and those of the mask
+-- are missing.
+pub record IsRefuting (w : Words) (t : StackView) (left count mask : ℕ) : Type 0 where
+  pub inputs : t.n ≡ w.n
+  pub room : length t.steps + left ≤ most_enumerated_steps
+  pub due : count ≡ due w t.steps
+  pub missing : IsMissingMask w t.steps mask
+
+-- the stack has the inputs of the words, room for `left` more steps, and the places j and k
+pub record IsAfter (w : Words) (t : StackView) (left j k : ℕ) : Type 0 where
+  pub inputs : t.n ≡ w.n
+  pub room : length t.steps + left ≤ most_enumerated_steps
+  pub first_from : 1 ≤ j
+  pub first : j ≤ t.n + length t.steps
+  pub second_from : 1 ≤ k
+  pub second : k ≤ t.n + length t.steps
 
 -- The outcome of a refutation from the stack `old`: if it succeeded, the stack is unchanged, and `None` holds.
 pub record IsRefutation (old new : StackView) (None : Type 0) (refuted : Bool) : Type 0 where

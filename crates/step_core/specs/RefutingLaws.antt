@@ -17,7 +17,7 @@ use Rattle.step_core.specs.StepStacks.{StackView}
 use Rattle.step_core.specs.Pruning.{due, gives_some}
 use Rattle.step_core.specs.Waits.{is_at, has_read, is_later}
 use Rattle.step_core.specs.Enumeration.{NoneFrom, NoneWith, HasLarger, HasPair, HasOperands, IsGivenStep}
-use Rattle.step_core.specs.Reads.{IsFreshSolution, ReadExactly, NoneReading, NoneReadingWith, reads_after, missing, IsMissingMask, AreInConflict, IsRefuting, IsRefutation}
+use Rattle.step_core.specs.Reads.{IsFreshSolution, ReadExactly, NoneReading, NoneReadingWith, reads_after, missing, IsMissingMask, AreInConflict, IsOpen, IsRefuting, IsAfter, IsRefutation}
 use Rattle.step_core.specs.StackLaws.{word_last}
 use Rattle.step_core.specs.PruningLaws.{too_few}
 use Rattle.step_core.specs.NormalFormLaws.{must_rise}
@@ -293,6 +293,63 @@ unrefuted old new None = record { same = λ e. absurd cc; none = λ e. absurd cc
 pub passed_on : (old new : StackView) (None More : Type 0) (refuted : Bool) → (None → More) → IsRefutation old new None refuted → IsRefutation old new More refuted
 passed_on old new None More refuted to is = record { same = is.same; none = λ e. to (is.none e) }
 
+-- after another refutation from the same stack
+pub passed_over : (old mid new : StackView) (None : StackView → Type 0) (More : Type 0) (refuted : Bool) → mid ≡ old →
+    IsRefutation mid new (None mid) refuted → (None old → More) → IsRefutation old new More refuted
+passed_over old mid new None More refuted same is to = record { same = λ e. is.same e ∙ same; none = λ e. to (subst None same (is.none e)) }
+
+pub moved_open : (w : Words) (old mid : StackView) (left count : ℕ) → mid ≡ old → IsOpen w old left count → IsOpen w mid left count
+moved_open w old mid left count same is = subst (λ (t : StackView). IsOpen w t left count) (sym same) is
+
+pub moved_refuting : (w : Words) (old mid : StackView) (left count mask : ℕ) → mid ≡ old → IsRefuting w old left count mask → IsRefuting w mid left count mask
+moved_refuting w old mid left count mask same is = subst (λ (t : StackView). IsRefuting w t left count mask) (sym same) is
+
+pub moved_after : (w : Words) (old mid : StackView) (left j k : ℕ) → mid ≡ old → IsAfter w old left j k → IsAfter w mid left j k
+moved_after w old mid left j k same is = subst (λ (t : StackView). IsAfter w t left j k) (sym same) is
+
+pub same_places : (old mid : StackView) → mid ≡ old → mid.n + length mid.steps ≡ old.n + length old.steps
+same_places old mid same = ap (λ (t : StackView). t.n + length t.steps) same
+
+-- the stack after a push
+pub pushed_after : (w : Words) (old new : StackView) (s : Step) (left less count : ℕ) → new.n ≡ old.n →
+    new.steps ≡ old.steps ++ s ∷ [] → less ≡ left - 1 → IsOpen w old left count →
+    IsStepAt (old.n + 1 + length old.steps) s → IsAfter w new less s.j s.k
+pushed_after w old new s left less count inputs grown lesser is at =
+    let longer : length new.steps ≡ length old.steps + 1 = ap (λ (ss : List Step). length ss) grown ∙ length_push old.steps s in
+    record {
+      inputs = inputs ∙ is.inputs;
+      room = omega (arith, is.room, longer, lesser, is.some);
+      first_from = at.j_from;
+      first = omega (arith, at.j_below, longer, inputs);
+      second_from = at.k_from;
+      second = omega (arith, at.k_below, longer, inputs);
+    }
+
+pub after_refuting : (w : Words) (t : StackView) (left j k count mask : ℕ) → IsAfter w t left j k → count ≡ due w t.steps → IsMissingMask w t.steps mask → IsRefuting w t left count mask
+after_refuting w t left j k count mask is counted masked = record { inputs = is.inputs; room = is.room; due = counted; missing = masked }
+
+take_all : (xs : List Step) (x : Step) → take (length xs) (xs ++ x ∷ []) ≡ xs
+take_all [] x = refl
+take_all (y ∷ xs) x = ap (λ (ys : List Step). y ∷ ys) (take_all xs x)
+
+take_pushed : (xs : List Step) (x : Step) → take (length (xs ++ x ∷ []) - 1) (xs ++ x ∷ []) ≡ xs
+take_pushed xs x =
+    let e : length (xs ++ x ∷ []) - 1 ≡ length xs = omega (arith, length_push xs x) in
+    ap (λ (k : ℕ). take k (xs ++ x ∷ [])) e ∙ take_all xs x
+
+whole : (a b : StackView) → b.n ≡ a.n → b.steps ≡ a.steps → b ≡ a
+whole a b n steps =
+    ap {B = StackView} (λ (m : ℕ). record { n = m; steps = b.steps }) n ∙ ap {B = StackView} (λ (ss : List Step). record { n = a.n; steps = ss }) steps
+
+-- the stack after a push, what was refuted on it, and a pop
+pub popped_back : (old pushed mid new : StackView) (s : Step) → pushed.n ≡ old.n → pushed.steps ≡ old.steps ++ s ∷ [] →
+    mid ≡ pushed → new.n ≡ mid.n → new.steps ≡ take (length mid.steps - 1) mid.steps → new ≡ old
+popped_back old pushed mid new s inputs grown same kept cut =
+    let steps : new.steps ≡ old.steps = cut ∙ ap (λ (t : StackView). take (length t.steps - 1) t.steps) same
+    ∙ ap (λ (ss : List Step). take (length ss - 1) ss) grown ∙ take_pushed old.steps s in
+    let n : new.n ≡ old.n = kept ∙ ap (λ (t : StackView). t.n) same ∙ inputs in
+    whole old new n steps
+
 -- ---- masks of outputs
 
 pub missing_more : (w : Words) (steps : List Step) (mask more output : ℕ) (member : Bool) →
@@ -315,6 +372,22 @@ missing_count w steps mask bound is e = ap (count_below (digit mask)) e ∙ coun
 
 pub mask_whole : (w : Words) (steps : List Step) (mask bound : ℕ) → ((i : ℕ) → i < bound → digit mask i ≡ is_missing w steps i) → bound ≡ length w.on → IsMissingMask w steps mask
 mask_whole w steps mask bound each e = record { each = λ i low. each i (omega (arith, low, e)) }
+
+-- ---- tests of a state
+
+pub by_count : (w : Words) (basis : Basis) (t : StackView) (left count mask reads n read bound most : ℕ) →
+    IsRefuting w t left count mask → n ≡ t.n + length t.steps → read ≡ count_below (digit reads) n →
+    bound ≡ length w.on → most ≡ left + count_below (digit mask) bound → most < read →
+    NoneReading w basis t.steps left (digit reads)
+by_count w basis t left count mask reads n read bound most is places counted outputs sum many =
+    let same : count_below (digit reads) n ≡ count_below (digit reads) (w.n + length t.steps) = ap (count_below (digit reads)) (omega (arith, places, is.inputs)) in
+    too_many_reads w basis t.steps left (digit reads) (omega (arith, many, sum, counted, same, missing_count w t.steps mask bound is.missing outputs))
+
+pub by_due : (w : Words) (basis : Basis) (t : StackView) (left count mask reads : ℕ) → IsRefuting w t left count mask → left < count → NoneReading w basis t.steps left (digit reads)
+by_due w basis t left count mask reads is many = by_size w basis t.steps left (digit reads) (too_few w basis t.steps left (omega (arith, many, is.due)))
+
+pub opened : (w : Words) (t : StackView) (left count mask : ℕ) → IsRefuting w t left count mask → 1 ≤ left → IsOpen w t left count
+opened w t left count mask is some = record { inputs = is.inputs; room = is.room; some = some; due = is.due }
 
 pub missing_is : (w : Words) (steps : List Step) (i : ℕ) (met : Bool) → met ≡ is_met w steps i → not met ≡ is_missing w steps i
 unfolding is_missing

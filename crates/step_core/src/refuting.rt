@@ -2,17 +2,14 @@
 //! come read, exactly; it ends where these are more than so many steps can read, or where the missing outputs aren't
 //! functions of them. The next step reads two of the set, and its operands and its own place are in the next set or
 //! not: eight cases. Work is counted, and a search that runs out of it refutes nothing.
-ghost use Rattle.std.specs.Prelude.{◌≡◌, ℕ, ◌+◌, ◌-◌, ◌≤◌, ◌<◌, Bool, length, IfOk};
+ghost use Rattle.std.specs.Prelude.{◌≡◌, ◌+◌, ◌≤◌, length, IfOk};
 ghost use Rattle.op_basis.specs.Basis.{members};
-ghost use Rattle.op_basis.specs.WordOperator.{on_words as on_words_of};
 ghost use Rattle.chain_theory.specs.Operator.{digit};
 ghost use Rattle.chain_theory.specs.Chain.{IsStepAt};
 ghost use Rattle.chain_core.specs.Steps.{step_of};
-ghost use Rattle.step_core.specs.Steps.{is_missing as is_missing_of};
-ghost use Rattle.step_core.specs.Pruning.{due as due_of};
 ghost use Rattle.step_core.specs.Enumeration.{HasLarger, HasPair, HasOperands, IsGivenStep};
-ghost use Rattle.step_core.specs.Reads.{NoneReading, NoneReadingWith, reads_after, IsMissingMask};
-ghost use Rattle.step_core.specs.Reads.{IsRefuting, IsRefutation};
+ghost use Rattle.step_core.specs.Reads.{NoneReading, NoneReadingWith, IsMissingMask};
+ghost use Rattle.step_core.specs.Reads.{IsOpen, IsRefuting, IsAfter, IsRefutation};
 ghost use Rattle.step_core.specs.RefutingLaws.{NoneGiven, NoneAfter, NoneOwn};
 
 use crate::determined::are_determined;
@@ -55,9 +52,7 @@ pub(crate) fn refute(
     reads: u32,
     work: &mut u32,
 ) -> Result<bool, AllocError>
-    requires refuting { IsRefuting spec.now stack.old left }
-    requires due { due ≡ due_of spec.now stack.old.steps }
-    requires missing { IsMissingMask spec.now stack.old.steps missing }
+    requires { IsRefuting spec.now stack.old left due missing }
     ensures { IfOk result (IsRefutation stack.old stack.new
         (NoneReading spec.now (members rules.now.basis) stack.old.steps left (digit reads))) }
 {
@@ -96,9 +91,7 @@ fn refute_steps(
     reads: u32,
     work: &mut u32,
 ) -> Result<bool, AllocError>
-    requires refuting { IsRefuting spec.now stack.old left }
-    requires some { 1 ≤ left }
-    requires due { due ≡ due_of spec.now stack.old.steps }
+    requires going { IsOpen spec.now stack.old left due }
     ensures { IfOk result (IsRefutation stack.old stack.new
         (NoneReading spec.now (members rules.now.basis) stack.old.steps left (digit reads))) }
 {
@@ -126,9 +119,7 @@ fn refute_larger(
     high: u32,
     work: &mut u32,
 ) -> Result<bool, AllocError>
-    requires refuting { IsRefuting spec.now stack.old left }
-    requires some { 1 ≤ left }
-    requires due { due ≡ due_of spec.now stack.old.steps }
+    requires going { IsOpen spec.now stack.old left due }
     requires high { high ≤ stack.old.n + length stack.old.steps }
     ensures { IfOk result (IsRefutation stack.old stack.new
         (NoneReadingWith spec.now (members rules.now.basis) stack.old.steps left (digit reads) (HasLarger high))) }
@@ -160,9 +151,7 @@ fn refute_pair(
     high: u32,
     work: &mut u32,
 ) -> Result<bool, AllocError>
-    requires refuting { IsRefuting spec.now stack.old left }
-    requires some { 1 ≤ left }
-    requires due { due ≡ due_of spec.now stack.old.steps }
+    requires going { IsOpen spec.now stack.old left due }
     requires low_from { 1 ≤ low }
     requires low { low ≤ high }
     requires high { high ≤ stack.old.n + length stack.old.steps }
@@ -199,9 +188,7 @@ fn refute_operators(
     k: u32,
     work: &mut u32,
 ) -> Result<bool, AllocError>
-    requires refuting { IsRefuting spec.now stack.old left }
-    requires some { 1 ≤ left }
-    requires due { due ≡ due_of spec.now stack.old.steps }
+    requires going { IsOpen spec.now stack.old left due }
     requires j_from { 1 ≤ j }
     requires j { j ≤ stack.old.n + length stack.old.steps }
     requires k_from { 1 ≤ k }
@@ -237,9 +224,7 @@ fn refute_step(
     step: Step,
     work: &mut u32,
 ) -> Result<bool, AllocError>
-    requires refuting { IsRefuting spec.now stack.old left }
-    requires some { 1 ≤ left }
-    requires due { due ≡ due_of spec.now stack.old.steps }
+    requires going { IsOpen spec.now stack.old left due }
     requires at { IsStepAt (stack.old.n + 1 + length stack.old.steps) (step_of step) }
     ensures { IfOk result (IsRefutation stack.old stack.new
         (NoneReadingWith spec.now (members rules.now.basis) stack.old.steps left (digit reads)
@@ -273,22 +258,19 @@ fn refute_after(
     gives: bool,
     work: &mut u32,
 ) -> Result<bool, AllocError>
-    requires refuting { IsRefuting spec.now stack.old left }
-    requires j_from { 1 ≤ j }
-    requires j { j ≤ stack.old.n + length stack.old.steps }
-    requires k_from { 1 ≤ k }
-    requires k { k ≤ stack.old.n + length stack.old.steps }
+    requires { IsAfter spec.now stack.old left j k }
     ensures { IfOk result (IsRefutation stack.old stack.new
         (NoneGiven spec.now (members rules.now.basis) stack.old.steps left (digit reads) j k gives)) }
 {
     let due = due(spec, stack);
     let missing = missing_outputs(spec, stack);
-    if gives {
-        if !refute_own(spec, rules, stack, left, due, missing, reads, j, k, false, work)? {
-            return Ok(false);
-        }
+    if !refute_own(spec, rules, stack, left, due, missing, reads, j, k, true, work)? {
+        return Ok(false);
     }
-    let refuted = refute_own(spec, rules, stack, left, due, missing, reads, j, k, true, work)?;
+    if !gives {
+        return Ok(true);
+    }
+    let refuted = refute_own(spec, rules, stack, left, due, missing, reads, j, k, false, work)?;
     Ok(refuted)
 }
 
@@ -308,13 +290,8 @@ fn refute_own(
     own: bool,
     work: &mut u32,
 ) -> Result<bool, AllocError>
-    requires refuting { IsRefuting spec.now stack.old left }
-    requires due { due ≡ due_of spec.now stack.old.steps }
-    requires missing { IsMissingMask spec.now stack.old.steps missing }
-    requires j_from { 1 ≤ j }
-    requires j { j ≤ stack.old.n + length stack.old.steps }
-    requires k_from { 1 ≤ k }
-    requires k { k ≤ stack.old.n + length stack.old.steps }
+    requires refuting { IsRefuting spec.now stack.old left due missing }
+    requires after { IsAfter spec.now stack.old left j k }
     ensures { IfOk result (IsRefutation stack.old stack.new
         (NoneOwn spec.now (members rules.now.basis) stack.old.steps left (digit reads) j k own)) }
 {
@@ -349,13 +326,8 @@ fn refute_case(
     own: bool,
     work: &mut u32,
 ) -> Result<bool, AllocError>
-    requires refuting { IsRefuting spec.now stack.old left }
-    requires due { due ≡ due_of spec.now stack.old.steps }
-    requires missing { IsMissingMask spec.now stack.old.steps missing }
-    requires j_from { 1 ≤ j }
-    requires j { j ≤ stack.old.n + length stack.old.steps }
-    requires k_from { 1 ≤ k }
-    requires k { k ≤ stack.old.n + length stack.old.steps }
+    requires refuting { IsRefuting spec.now stack.old left due missing }
+    requires after { IsAfter spec.now stack.old left j k }
     ensures { IfOk result (IsRefutation stack.old stack.new
         (NoneAfter spec.now (members rules.now.basis) stack.old.steps left (digit reads) j k first second own)) }
 {
