@@ -112,6 +112,7 @@ specified w word i t has care =
   where
     zero_digit : (t : ℕ) → digit 0 t ≡ false
     zero_digit t = ap (λ (y : ℕ). y == 1) (bit_at-zero t)
+
     equal : (x y c : Bool) → c ≡ true → (differ x y && c) ≡ false → x ≡ y
     equal true true c e f = refl
     equal false false c e f = refl
@@ -143,4 +144,3 @@ none_in_conflict w basis prefix left reads is = record {
           | inl before ↦ both_ways (is_missing w prefix is.output) (met_before w prefix rest is.output met.0 before met.2) is.missed
           | inr past ↦ is.differ (sym b ∙ further_alike w is.row is.other is.below is.other_below rest prefix target.normal.solution.are alike p (omega (arith, past)) (omega (arith, met.1)) ∙ a)
         ]
-

@@ -1,5 +1,5 @@
 -- In a least chain each step is read, or is the first with the values of some output: a chain without it would do.
-use Rattle.std.proofs.Common.{◌≡◌, ℕ, zero, suc, ◌+◌, ◌-◌, ◌≤◌, ◌<◌, ◌⊎◌, true, false, Bool, not, List, [], ◌∷◌, ◌++◌, length, refl, sym, ap, ◌∙◌, subst, arith, inl, inr, get_or}
+use Rattle.std.proofs.Common.{◌≡◌, ℕ, zero, suc, ◌+◌, ◌-◌, ◌≤◌, ◌<◌, ◌⊎◌, true, false, Bool, ◌&&◌, not, List, [], ◌∷◌, ◌++◌, length, refl, sym, ap, ◌∙◌, subst, arith, inl, inr, get_or}
 use Rattle.std.specs.Prelude.{slice_get, slice_index_or, Some}
 use Rattle.std.proofs.lemmas.Bool.{cases_Bool, cases_lt, cases_eq, both_ways}
 use Rattle.std.proofs.lemmas.Option.{get_or_from_slice_get}
@@ -52,15 +52,17 @@ chosen : (w : Words) (steps : List Step) (k i : ℕ) → IsSpec w → AreSteps w
 chosen w steps k i spec are each (inr past) = (kinds.Zero, λ low. absurd (omega (arith, past, low)))
 chosen w steps k i spec are each (inl low) =
     let found = each i low in
-    let own : i + 1 - 1 ≡ i = omega arith in
-    (kinds.Place (w.n + 1 + found.index), λ inside. record {
-      is = step_out w steps (i + 1) (w.n + 1 + found.index) spec are (omega arith) (record {
-        from = omega arith;
-        to = omega (arith, found.inside);
-        has = ap (misses w (word_in w.n steps (w.n + 1 + found.index))) own ∙ found.has;
-      });
-      other = λ e. found.other (omega (arith, place_of (w.n + 1 + found.index) (w.n + 1 + k) e));
-    })
+    let own : i + 1 - 1 ≡ i = omega arith in (
+      kinds.Place (w.n + 1 + found.index),
+      λ inside. record {
+        is = step_out w steps (i + 1) (w.n + 1 + found.index) spec are (omega arith) (record {
+          from = omega arith;
+          to = omega (arith, found.inside);
+          has = ap (misses w (word_in w.n steps (w.n + 1 + found.index))) own ∙ found.has;
+        });
+        other = λ e. found.other (omega (arith, place_of (w.n + 1 + found.index) (w.n + 1 + k) e));
+      },
+    )
 
 -- the outs of all outputs
 pub record AreOtherOuts (w : Words) (steps : List Step) (k : ℕ) (outs : List Out) : Type 0 where
@@ -71,13 +73,15 @@ other_outs : (w : Words) (steps : List Step) (k : ℕ) → IsSpec w → AreSteps
     ((j : ℕ) → j < length w.on → IsOtherStep w steps k j) → (outs : List Out) × AreOtherOuts w steps k outs
 other_outs w steps k spec are each =
     let f : ℕ → Out = λ i. (chosen w steps k i spec are each (cases_lt i (length w.on))).0 in
-    let m : ℕ = length w.on in
-    (rebuilt f m, record {
-      count = rebuilt_length f m;
-      each = λ i low. subst (IsOtherOut w steps k i)
-          (sym (get_or_from_slice_get (rebuilt f m) i (f i) kinds.Zero (rebuilt_get f m i low)))
-          ((chosen w steps k i spec are each (cases_lt i (length w.on))).1 low);
-    })
+    let m : ℕ = length w.on in (
+      rebuilt f m,
+      record {
+        count = rebuilt_length f m;
+        each = λ i low. subst (IsOtherOut w steps k i)
+            (sym (get_or_from_slice_get (rebuilt f m) i (f i) kinds.Zero (rebuilt_get f m i low)))
+            ((chosen w steps k i spec are each (cases_lt i (length w.on))).1 low);
+      },
+    )
 
 -- ---- a chain without the step
 
@@ -124,6 +128,7 @@ below_all w prefix rest s a q are unread at reads = elim (either_get prefix (s �
     apart : (x : Step) (p : ℕ) → p ≤ w.n + 1 + length prefix → IsStepAt p x → Reads x (w.n + 1 + length prefix) → ⊥
     apart x p low is (inl e) = omega (arith, is.j_below, low, e)
     apart x p low is (inr e) = omega (arith, is.k_below, low, e)
+
     after : (k : ℕ) → slice_get (s ∷ rest) k ≡ Some a → ⊥
     after zero here =
         let same : s ≡ a = cc in
@@ -188,6 +193,7 @@ fresh_of w basis steps spec least target = record {
         | inr none ↦ absurd (none_unused w basis prefix rest s spec below is unread none)
       ]
     ]
+
     one : (prefix rest : List Step) (s : Step) → steps ≡ prefix ++ s ∷ rest →
         (is_later rest (w.n + length prefix) ≡ true) ⊎
         (gives_some w prefix (word_in w.n steps (w.n + 1 + length prefix)) ≡ true)

@@ -24,3 +24,5 @@ pub mod DeterminedLaws
 pub mod MaskLaws
 pub mod ClashLaws
 pub mod RefutingLaws
+pub mod LiveChainLaws
+pub mod RefutedLaws

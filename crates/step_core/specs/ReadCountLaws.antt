@@ -35,7 +35,9 @@ count_fewer a b (suc k) i low fails passes each = elim (cases_lt i k) [
   | inl below ↦ omega (
     arith,
     count_fewer a b k i below fails passes (λ j less. each j (omega (arith, less))),
-    more a k, more b k, bits (a k) (b k) (each k (omega arith)),
+    more a k,
+    more b k,
+    bits (a k) (b k) (each k (omega arith)),
   )
   | inr last ↦
       let same : i ≡ k = omega (arith, low, last) in
@@ -46,6 +48,7 @@ count_fewer a b (suc k) i low fails passes each = elim (cases_lt i k) [
   where
     more : (c : ℕ → Bool) (k : ℕ) → count_below c (suc k) ≡ count_below c k + cond (c k) 1 0
     more c k = let e : suc k ≡ k + 1 = omega arith in ap (count_below c) e ∙ count_more c k
+
     bits : (x y : Bool) → (x ≡ true → y ≡ true) → cond x 1 0 ≤ cond y 1 0
     bits false y e = omega arith
     bits true true e = omega arith
@@ -110,16 +113,34 @@ reads_few w basis (s ∷ rest) prefix target =
     let later : count_below (is_later rest) (w.n + length longer) ≡ count_below (is_later rest) places + cond (is_later rest places) 1 0 = ap (count_below (is_later rest)) count ∙ count_more (is_later rest) places in
     let split : count_below (is_later (s ∷ rest)) places ≤ count_below (has_read s) places + count_below (is_later rest) places = count_split (is_later (s ∷ rest)) (has_read s) (is_later rest) places (λ i low e. or_cases (has_read s i) (is_later rest i) e) in
     elim (target.each prefix rest s refl) [
-      | inl read ↦ omega (arith, later, split, two_read s places, reads_few w basis rest longer moved, missing_after w prefix s,
-          ap {B = ℕ} (λ (x : Bool). cond x 1 0) read)
-      | inr given ↦ omega (arith, later, split, two_read s places, reads_few w basis rest longer moved,
-          missing_given w prefix s (word_in w.n (prefix ++ s ∷ rest) (w.n + 1 + length prefix)) (middle_word w prefix rest s) given)
+      | inl read ↦ omega (
+        arith,
+        later,
+        split,
+        two_read s places,
+        reads_few w basis rest longer moved,
+        missing_after w prefix s,
+        ap {B = ℕ} (λ (x : Bool). cond x 1 0) read,
+      )
+      | inr given ↦ omega (
+        arith,
+        later,
+        split,
+        two_read s places,
+        reads_few w basis rest longer moved,
+        missing_given w prefix s (word_in w.n (prefix ++ s ∷ rest) (w.n + 1 + length prefix)) (middle_word w prefix rest s) given,
+      )
     ]
 
 -- too many places are to be read
 pub too_many_reads : (w : Words) (basis : Basis) (prefix : List Step) (left : ℕ) (reads : ℕ → Bool) →
     left + missing w prefix < count_below reads (w.n + length prefix) → NoneReading w basis prefix left reads
 too_many_reads w basis prefix left reads many = record {
-  none = λ rest count target read. omega (arith, many, count, reads_few w basis rest prefix target,
-      count_weaker reads (is_later rest) (w.n + length prefix) (λ i low e. read.each i low ∙ e));
+  none = λ rest count target read. omega (
+    arith,
+    many,
+    count,
+    reads_few w basis rest prefix target,
+    count_weaker reads (is_later rest) (w.n + length prefix) (λ i low e. read.each i low ∙ e),
+  );
 }

@@ -37,6 +37,10 @@ pub record NoneReadingWith (w : Words) (basis : Basis) (prefix : List Step) (lef
   pub none : (s : Step) (rest : List Step) → P s → suc (length rest) ≡ left →
       IsFreshSolution w basis (prefix ++ s ∷ rest) → ReadExactly (s ∷ rest) (w.n + length prefix) reads → ⊥
 
+-- no such chain has this number of steps
+pub record NoneOfSize (w : Words) (basis : Basis) (size : ℕ) : Type 0 where
+  pub none : (steps : List Step) → length steps ≡ size → IsFreshSolution w basis steps → ⊥
+
 -- The set after a step with the operands j and k at the place p: the operands are in it or not as `first` and `second`
 -- say, the step's own place as `own` says, and other places as before.
 abbrev pub reads_after : (ℕ → Bool) → ℕ → ℕ → ℕ → Bool → Bool → Bool → ℕ → Bool

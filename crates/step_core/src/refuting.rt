@@ -204,7 +204,16 @@ fn refute_operators(
         if !is_nontrivial(rules, j, k, op) {
             continue;
         }
-        if !refute_step(spec, rules, stack, left, due, reads, Step { j, k, op }, work)? {
+        if !refute_step(
+            spec,
+            rules,
+            stack,
+            left,
+            due,
+            reads,
+            Step { j, k, op },
+            work,
+        )? {
             return Ok(false);
         }
     }
@@ -236,7 +245,17 @@ fn refute_step(
     let word = on_words(step.op, stack.word(step.j), stack.word(step.k));
     let gives = gives_some(spec, stack, word);
     stack.push(step)?;
-    if !refute_after(spec, rules, stack, left - 1, reads, step.j, step.k, gives, work)? {
+    if !refute_after(
+        spec,
+        rules,
+        stack,
+        left - 1,
+        reads,
+        step.j,
+        step.k,
+        gives,
+        work,
+    )? {
         return Ok(false);
     }
     stack.pop();
@@ -264,13 +283,17 @@ fn refute_after(
 {
     let due = due(spec, stack);
     let missing = missing_outputs(spec, stack);
-    if !refute_own(spec, rules, stack, left, due, missing, reads, j, k, true, work)? {
+    if !refute_own(
+        spec, rules, stack, left, due, missing, reads, j, k, true, work,
+    )? {
         return Ok(false);
     }
     if !gives {
         return Ok(true);
     }
-    let refuted = refute_own(spec, rules, stack, left, due, missing, reads, j, k, false, work)?;
+    let refuted = refute_own(
+        spec, rules, stack, left, due, missing, reads, j, k, false, work,
+    )?;
     Ok(refuted)
 }
 
@@ -295,16 +318,24 @@ fn refute_own(
     ensures { IfOk result (IsRefutation stack.old stack.new
         (NoneOwn spec.now (members rules.now.basis) stack.old.steps left (digit reads) j k own)) }
 {
-    if !refute_case(spec, rules, stack, left, due, missing, reads, j, k, false, false, own, work)? {
+    if !refute_case(
+        spec, rules, stack, left, due, missing, reads, j, k, false, false, own, work,
+    )? {
         return Ok(false);
     }
-    if !refute_case(spec, rules, stack, left, due, missing, reads, j, k, false, true, own, work)? {
+    if !refute_case(
+        spec, rules, stack, left, due, missing, reads, j, k, false, true, own, work,
+    )? {
         return Ok(false);
     }
-    if !refute_case(spec, rules, stack, left, due, missing, reads, j, k, true, false, own, work)? {
+    if !refute_case(
+        spec, rules, stack, left, due, missing, reads, j, k, true, false, own, work,
+    )? {
         return Ok(false);
     }
-    let refuted = refute_case(spec, rules, stack, left, due, missing, reads, j, k, true, true, own, work)?;
+    let refuted = refute_case(
+        spec, rules, stack, left, due, missing, reads, j, k, true, true, own, work,
+    )?;
     Ok(refuted)
 }
 
