@@ -10,8 +10,9 @@ use Rattle.equiv_run.specs.declared.answer.EquivOutcome.{EquivOutcome}
 use Rattle.equiv_run.specs.declared.answer.CompareError.{CompareError}
 use Rattle.equiv_run.specs.declared.answer.CompareError.TheVariants.{NoSecond, First, Second, DifferentInterface}
 use Rattle.equiv_run.specs.declared.answer.CompareError.TheVariants.{Memory}
-use Rattle.equiv_run.specs.Pairs.{ShareInterface, IsDocumentAnswer}
+use Rattle.equiv_run.specs.Pairs.{ShareInterface}
 use Rattle.equiv_run.specs.Two.{has_no_sink}
+use Rattle.equiv_values.specs.Named.{IsNamedAnswer}
 
 -- The text is a netlist in the format, and this is its document.
 pub record Lists (f : Format) (bytes : List ℕ) (d : Document) : Type 0 where
@@ -38,7 +39,7 @@ pub record IsFormatsAnswer (p : FormatPair) (budget : ℕ) (first second text : 
   pub other : Document
   pub are : AreNetlists p first second one other
   pub interface : ShareInterface one other
-  pub reported : IsDocumentAnswer budget one other text outcome
+  pub reported : IsNamedAnswer budget one other text outcome
 
 -- The answer says whether the netlist of the text has neither an output nor a latch.
 abbrev pub SaysNoSink : Format → List ℕ → Bool → Type 0

@@ -17,9 +17,11 @@ use Rattle.equiv_run.specs.declared.answer.CompareError.{CompareError}
 use Rattle.equiv_run.specs.declared.answer.CompareError.TheVariants.{NoSecond, First, Second, DifferentInterface, Memory}
 use Rattle.equiv_run.specs.declared.answer.ComparedTwo.{ComparedTwo}
 use Rattle.equiv_run.specs.Pairs.{ShareInterface}
-use Rattle.equiv_run.specs.PairLaws.{shared, have_same, answered_of, interface_of}
-use Rattle.equiv_run.specs.CircuitAnswers.{IsCircuitAnswer, IsOther}
+use Rattle.equiv_run.specs.PairLaws.{shared, have_same}
+use Rattle.equiv_run.specs.CircuitAnswers.{IsOther}
 use Rattle.equiv_run.specs.Two.{lacks_sinks}
+use Rattle.equiv_values.specs.Named.{IsNamedCircuitAnswer}
+use Rattle.equiv_values.specs.NamedLaws.{named_of, named_interface}
 use Rattle.equiv_formats.specs.Comparison.{Lists, first_format, second_format, AreNetlists, IsFormatsAnswer, SaysNoSink, DifferInInterface, HasFormatsFault, IsFormatsRefused, IsFirstRefused, IsSecondRefused}
 
 -- ---- documents
@@ -48,13 +50,13 @@ netlist_listed f bytes d lists = record { listed = lists.listed; said = lists.sa
 
 pub formats_answer : (p : FormatPair) (budget : ℕ) (first second : List ℕ) (c k : Circuit) (text : List ℕ) (outcome : EquivOutcome) →
     IsCircuitOfText (first_format p) first c → IsCircuitOfText (second_format p) second k →
-    IsCircuitAnswer budget c k text outcome → IsFormatsAnswer p budget first second text outcome
+    IsNamedCircuitAnswer budget c k text outcome → IsFormatsAnswer p budget first second text outcome
 formats_answer p budget first second c k text outcome of_c of_k reported = record {
   one = of_c.listed.document;
   other = of_k.listed.document;
   are = are_netlists p first second c k of_c of_k;
-  interface = shared of_c.listed.document of_k.listed.document c k of_c.circuit.describes of_k.circuit.describes (interface_of budget c k text outcome reported);
-  reported = answered_of budget of_c.listed.document of_k.listed.document c k text outcome of_c.circuit of_k.circuit reported;
+  interface = shared of_c.listed.document of_k.listed.document c k of_c.circuit.describes of_k.circuit.describes (named_interface budget c k text outcome reported);
+  reported = named_of budget of_c.listed.document of_k.listed.document c k text outcome of_c.circuit of_k.circuit reported;
 }
 
 -- outputs and latches of the circuit are those of the text's document

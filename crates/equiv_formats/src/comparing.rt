@@ -8,7 +8,8 @@ ghost use Rattle.equiv_run.specs.Two.{lacks_sinks as lacks_sinks_of};
 ghost use Rattle.equiv_formats.specs.Comparison.{first_format, IsFormatsAnswer, IsFormatsRefused, SaysNoSink};
 ghost use Rattle.equiv_formats.specs.Comparison.{IsFirstRefused, IsSecondRefused};
 
-use equiv_run::{CompareError, ComparedTwo, compare_circuits};
+use equiv_run::{CompareError, ComparedTwo};
+use equiv_values::compare_named;
 use format_names::{FormatPair, NetFormat};
 use net_core::{Circuit, NetError};
 use net_formats::read_netlist;
@@ -74,7 +75,7 @@ pub fn compare_netlists<S: Solver, T: Tell>(
 {
     let one = read_first(alloc, formats.first, first)?;
     let other = read_second(alloc, formats.second, second)?;
-    let compared = compare_circuits::<S, T>(alloc, &one, &other, conflicts, tell)?;
+    let compared = compare_named::<S, T>(alloc, &one, &other, conflicts, tell)?;
     let no_sink = lacks_sinks(&one);
     Ok(ComparedTwo { compared, no_sink })
 }

@@ -1,10 +1,10 @@
 //! Equivalence of two netlists, each a text of its own in a format of its own (`net_formats`): BLIF, BENCH or AIGER,
-//! mixed as well. The crate rests on the readers of the formats, and on `equiv_run` for the comparison and the text
+//! mixed as well. The crate rests on the readers of the formats, and on `equiv_values` for the comparison and the text
 //! of the answer.
 //!
 //! The theorem is that of `compare_netlists`: `equal` is answered only if the documents that the two texts list, each
 //! in its format, are equivalent, and `differ` only with values of the sources under which an output or a next state
-//! differs. Two texts that can't be compared are refused with their first fault, and nothing else is refused, but if
+//! differs, which the text tells by names too. Two texts that can't be compared are refused with their first fault, and nothing else is refused, but if
 //! memory runs out.
 //!
 //! ```text

@@ -3,12 +3,12 @@ use Rattle.equiv_formats.specs.SmallLaws.{small_circuit}
 use Rattle.equiv_formats.specs.ComparisonLaws.{formats_answer, says_no_sink, first_passed, second_passed, other_passed}
 use Rattle.equiv_formats.proofs.comparing.compare_netlists.Goals as goal
 
-pub compare_circuits-requires-clause-small : goal.compare_circuits-requires-clause-small
-compare_circuits-requires-clause-small g c =
+pub compare_named-requires-clause-small : goal.compare_named-requires-clause-small
+compare_named-requires-clause-small g c =
     small_circuit c.args.formats.first _ c.in_ok-one.one c.requires.first c.in_ok-one.ensures.circuit
 
-pub compare_circuits-requires-clause-other : goal.compare_circuits-requires-clause-other
-compare_circuits-requires-clause-other g c =
+pub compare_named-requires-clause-other : goal.compare_named-requires-clause-other
+compare_named-requires-clause-other g c =
     small_circuit c.args.formats.second _ c.in_ok-other.other c.requires.second c.in_ok-other.ensures.circuit
 
 pub returns-clause-answer : goal.returns-clause-answer

@@ -2,7 +2,7 @@ use Rattle.clause_core.specs.ListLaws.{all_rest}
 use Rattle.std.proofs.Common.{◌+◌, length}
 use Rattle.net_theory.specs.Net.{IsSigBelow, bit_of}
 use Rattle.equiv_core.specs.SinkLaws.{one_more}
-use Rattle.cmd_at.proofs.simulating.signal_bits.Goals as goal
+use Rattle.equiv_values.proofs.simulating.signal_bits.Goals as goal
 
 pub loop-signal-preserved : goal.loop-signal-preserved
 loop-signal-preserved c = record {

@@ -1,7 +1,7 @@
 use Rattle.std.proofs.Common.{◌∙◌}
 use Rattle.net_theory.specs.Net.{bit_of, value, end_of}
 use Rattle.equiv_core.specs.SinkLaws.{signals_same}
-use Rattle.cmd_at.proofs.simulating.sink_bits.Goals as goal
+use Rattle.equiv_values.proofs.simulating.sink_bits.Goals as goal
 
 pub returns : goal.returns
 returns c =

@@ -45,7 +45,7 @@ fn node_bits(alloc: Global, net: &Net, sources: &[bool]) -> Result<Vec<bool>, Al
 }
 
 /// The values of a net's sinks, given the values `sources` of the sources.
-pub(crate) fn sink_bits(alloc: Global, net: &Net, sources: &[bool]) -> Result<Vec<bool>, AllocError>
+pub fn sink_bits(alloc: Global, net: &Net, sources: &[bool]) -> Result<Vec<bool>, AllocError>
     requires { length sources.now ≡ net.now.sources }
     ensures { IfOk result (λ bits. bits.items ≡ sink_values net.now (bit_of sources.now)) }
 {
@@ -62,7 +62,7 @@ fn same_bit(first: bool, second: bool) -> bool
 }
 
 /// Whether two lists have the same bits.
-pub(crate) fn same_bits(first: &[bool], second: &[bool]) -> bool
+pub fn same_bits(first: &[bool], second: &[bool]) -> bool
     ensures { IsTrue result ↔ (first.now ≡ second.now) }
 {
     let mut left = first;

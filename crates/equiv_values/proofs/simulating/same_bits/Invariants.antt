@@ -1,5 +1,5 @@
 use Rattle.std.proofs.Common.{◌≡◌, ◌↔◌, length}
-use Rattle.cmd_at.proofs.simulating.same_bits.Given as goal
+use Rattle.equiv_values.proofs.simulating.same_bits.Given as goal
 
 abbrev pub invariant-loop-bit : goal.invariant-loop-bit
 invariant-loop-bit l = record { same : (l.left ≡ l.right) ↔ (l.first ≡ l.second) }

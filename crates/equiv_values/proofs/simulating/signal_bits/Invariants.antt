@@ -1,6 +1,6 @@
 use Rattle.std.proofs.Common.{◌≡◌, ◌+◌, ◌++◌, All, length, map}
 use Rattle.net_theory.specs.Net.{IsSigBelow, bit_of, sig_value}
-use Rattle.cmd_at.proofs.simulating.signal_bits.Given as goal
+use Rattle.equiv_values.proofs.simulating.signal_bits.Given as goal
 
 abbrev pub invariant-loop-signal : goal.invariant-loop-signal
 invariant-loop-signal l = record {
