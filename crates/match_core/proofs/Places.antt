@@ -1,6 +1,7 @@
 -- The places of latches by name.
 use Rattle.std.specs.Prelude.{◌≡◌, ℕ, zero, suc, ◌+◌, ◌<◌, Bool, true, false, if◌then◌else◌, List, [], ◌∷◌, ◌++◌, length, drop, slice_get, Option, Some, None, refl}
-use Rattle.std.proofs.Common.{arith, ap, ◌∙◌, sym, ⊎_elim, append_assoc, length-append}
+use Rattle.std.specs.List.{cons_option}
+use Rattle.std.proofs.Common.{arith, ap, ◌∙◌, sym, ⊎_elim, append_assoc, append-nil, length-append}
 use Rattle.std.proofs.lemmas.Bool.{cond-true, cond-false, cases_Bool}
 use Rattle.std.proofs.lemmas.Grind.{common_steps}
 use Rattle.net_theory.specs.Document.{Name, is_same, LatchLine}
@@ -106,4 +107,25 @@ place_line ls n p e = let found = found_from 0 ls n p e in
 pub place_nowhere : (ls : List LatchLine) (n : Name) → place_of ls n ≡ None → line_named ls n ≡ None
 place_nowhere ls n e = none_from 0 ls n e
 
-pub ruleset finding = (common_steps, place_within, place_line, place_nowhere)
+-- ---- a place that was looked up
+
+pub found_within : (ls : List LatchLine) (places : Name → Option ℕ) (n : Name) (r : Option ℕ) (p : ℕ) →
+    places ≡ place_of ls → r ≡ places n → r ≡ Some p → p < length ls
+found_within ls places n r p all is some = place_within ls n p (ap (λ (f : Name → Option ℕ). f n) (sym all) ∙ sym is ∙ some)
+
+pub found_line : (ls : List LatchLine) (places : Name → Option ℕ) (n : Name) (r : Option ℕ) (p : ℕ) (l : LatchLine)
+    (old new : List LatchLine) → places ≡ place_of ls → r ≡ places n → r ≡ Some p → slice_get ls p ≡ Some l →
+    new ≡ old ++ l ∷ [] → new ≡ old ++ cons_option (line_named ls n) []
+found_line ls places n r p l old new all is some at pushed =
+    pushed
+    ∙ ap (λ (x : Option LatchLine). old ++ cons_option x [])
+    (sym (place_line ls n p (ap (λ (f : Name → Option ℕ). f n) (sym all) ∙ sym is ∙ some) ∙ at))
+
+pub found_nowhere : (ls : List LatchLine) (places : Name → Option ℕ) (n : Name) (r : Option ℕ) (old : List LatchLine) →
+    places ≡ place_of ls → r ≡ places n → r ≡ None → old ≡ old ++ cons_option (line_named ls n) []
+found_nowhere ls places n r old all is none =
+    sym (append-nil old)
+    ∙ ap (λ (x : Option LatchLine). old ++ cons_option x [])
+    (sym (place_nowhere ls n (ap (λ (f : Name → Option ℕ). f n) (sym all) ∙ sym is ∙ none)))
+
+pub ruleset finding = (common_steps, found_within, found_line, found_nowhere)

@@ -8,8 +8,7 @@ ghost use Rattle.match_core.specs.Lacks.{lack_of};
 
 /// Neither of two netlists lacks a name of the other exactly if there is no first one. The second in the order of the
 /// first is then well formed, and equivalent to the first exactly if the two are equivalent by names.
-#[tactic(auto, using(crate::specs::MatchedLaws::none_lacks, crate::specs::MatchedLaws::matched_well, // for the prover
-crate::specs::ByNamesLaws::by_names))]
+#[tactic(auto, using(crate::specs::MatchedLaws::none_lacks))]
 pub fn names_correspond()
     ensures named { (d e : Document) → (lack_of d e ≡ None) ↔ ShareNames d e }
     ensures well { (d e : Document) → IsWellFormed d → IsWellFormed e → ShareNames d e → IsWellFormed (matched d e) }

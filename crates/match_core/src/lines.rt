@@ -71,6 +71,16 @@ fn set_places(places: &mut IndexMap<Name, u32>, lines: &[LatchLine]) -> Result<(
     Ok(())
 }
 
+/// The place of a name.
+fn place_in(places: &IndexMap<Name, u32>, name: &Name) -> Option<u32>
+    ensures { result ≡ get is_same places.now name.now }
+{
+    match places.get(name) {
+        Some(place) => Some(*place),
+        None => None,
+    }
+}
+
 /// Appends a copy of the latch with this name, if there is one.
 #[tactic(auto, using(crate::proofs::Places::finding))]
 fn push_line(
@@ -82,9 +92,9 @@ fn push_line(
     requires { get is_same places.now ≡ place_of lines.now }
     ensures { OnOk result (found.new.items ≡ found.old.items ++ cons_option (line_named lines.now name.now) []) }
 {
-    match places.get(name) {
+    match place_in(places, name) {
         Some(place) => {
-            found.push(copied_line(&lines[*place as usize])?)?;
+            found.push(copied_line(&lines[place as usize])?)?;
             Ok(())
         }
         None => Ok(()),
