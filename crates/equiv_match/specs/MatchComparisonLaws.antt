@@ -112,8 +112,24 @@ small_as d e c a of_c of_a sources names outputs small =
     let same : length e.outputs ≡ length d.outputs = ap length outputs in
     record {
       sources = omega (arith, one, other, sources, of_c.proper.source_count, of_a.proper.source_count, small.sources, small.sinks);
-      sinks = omega (arith, ones, others, names, first, second, same, one, other, sources, of_c.proper.sink_count,
-          of_a.proper.sink_count, of_c.proper.source_count, of_a.proper.source_count, small.sources, small.sinks);
+      sinks = omega (
+        arith,
+        ones,
+        others,
+        names,
+        first,
+        second,
+        same,
+        one,
+        other,
+        sources,
+        of_c.proper.sink_count,
+        of_a.proper.sink_count,
+        of_c.proper.source_count,
+        of_a.proper.source_count,
+        small.sources,
+        small.sinks,
+      );
     }
 
 -- it has as many sources and sinks

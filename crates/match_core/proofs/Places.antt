@@ -127,5 +127,3 @@ found_nowhere ls places n r old all is none =
     sym (append-nil old)
     ∙ ap (λ (x : Option LatchLine). old ++ cons_option x [])
     (sym (place_nowhere ls n (ap (λ (f : Name → Option ℕ). f n) (sym all) ∙ sym is ∙ none)))
-
-pub ruleset finding = (common_steps, found_within, found_line, found_nowhere)

@@ -82,7 +82,6 @@ fn place_in(places: &IndexMap<Name, u32>, name: &Name) -> Option<u32>
 }
 
 /// Appends a copy of the latch with this name, if there is one.
-#[tactic(auto, using(crate::proofs::Places::finding))]
 fn push_line(
     found: &mut Vec<LatchLine>,
     places: &IndexMap<Name, u32>,
