@@ -15,7 +15,8 @@ use Rattle.frame_core.specs.Task.{IsAnswerStatus, IsRefusalStatus, IsTask}
 use Rattle.frame_core.specs.TaskLaws.{at_once_task}
 use Rattle.cmd_lines.specs.NetLineLaws.{status_kind}
 use Rattle.cmd_equiv.specs.EquivReport.{standing_status}
-use Rattle.cmd_equiv.specs.WithReport.{TwoComparison, empty_refusal, with_reply}
+use Rattle.cmd_equiv.specs.WithReport.{empty_refusal}
+use Rattle.cmd_formats.specs.FormatsReport.{NamedComparison, named_reply}
 use Rattle.cmd_match.specs.MatchReport.{MatchFault, FirstEmpty, SecondEmpty, Faulty, IsMatchComparison, HasFault, MeetsMatchFault, lack_refusal, latches_refusal, error_refusal, match_refusal, match_task}
 
 answer_statuses : (s : EquivOutcome) → IsAnswerStatus (standing_status s)
@@ -42,12 +43,12 @@ refusal_statuses p first second (Faulty e) meets = fault_statuses p first second
 both : {A : Type 0} (b : Bool) → b ≡ true → b ≡ false → A
 both b is isnt = let e : true ≡ false = sym is ∙ isnt in cc
 
-apart : (p : FormatPair) (budget : ℕ) (first second : List ℕ) (c : TwoComparison) (fault : MatchFault) →
+apart : (p : FormatPair) (budget : ℕ) (first second : List ℕ) (c : NamedComparison) (fault : MatchFault) →
     IsMatchComparison p budget first second c → HasFault p first second fault → ⊥
 apart p budget first second c FirstEmpty is meets = both (is_bare first) meets is.said.one
 apart p budget first second c SecondEmpty is meets = both (is_bare second) meets.other is.said.other
 apart p budget first second c (Faulty e) is meets =
-    matched_apart p budget first second c.compared.text c.compared.outcome e is.answer meets.fault
+    matched_apart p budget first second c.compared.text c.told c.compared.outcome e is.answer meets.fault
 
 one : (p : FormatPair) (first second : List ℕ) (a b : MatchFault) →
     HasFault p first second a → HasFault p first second b → match_refusal a ≡ match_refusal b
@@ -63,7 +64,7 @@ one p first second (Faulty e) (Faulty f) x y = ap error_refusal (matched_one p f
 
 pub match_is_task : (p : FormatPair) (budget : ℕ) (first : List ℕ) → IsTask (match_task p budget first)
 match_is_task p budget first =
-    at_once_task most_of_netlist TwoComparison (IsMatchComparison p budget first) with_reply MatchFault (MeetsMatchFault p first) match_refusal
+    at_once_task most_of_netlist NamedComparison (IsMatchComparison p budget first) named_reply MatchFault (MeetsMatchFault p first) match_refusal
     (λ c. answer_statuses c.compared.outcome)
     (λ bytes fault meets. inl (refusal_statuses p first bytes fault meets.met))
     (λ bytes c fault has meets. apart p budget first bytes c fault has meets.met)

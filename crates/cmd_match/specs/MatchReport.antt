@@ -16,14 +16,15 @@ use Rattle.frame_core.specs.declared.status.Status.TheVariants as statuses
 use Rattle.frame_core.specs.Reported.{Word, Refusal, plain}
 use Rattle.frame_core.specs.Task.{Task, at_once}
 use Rattle.cmd_equiv.specs.EquivReport.{equiv_refusal}
-use Rattle.cmd_equiv.specs.WithReport.{AreSaid, TwoComparison, IsSecondEmpty, empty_refusal, with_reply}
+use Rattle.cmd_equiv.specs.WithReport.{AreSaid, IsSecondEmpty, empty_refusal}
+use Rattle.cmd_formats.specs.FormatsReport.{NamedComparison, named_reply}
 
 -- The texts are two netlists whose inputs, outputs and latches correspond by names, and `text` reports and proves the
 -- result for the first and for the second in the order of the first.
-pub record IsMatchComparison (p : FormatPair) (budget : ℕ) (first second : List ℕ) (c : TwoComparison) : Type 0 where
+pub record IsMatchComparison (p : FormatPair) (budget : ℕ) (first second : List ℕ) (c : NamedComparison) : Type 0 where
   pub within : length second ≤ most_of_netlist
   pub said : AreSaid first second
-  pub answer : IsMatchedAnswer p budget first second c.compared.text c.compared.outcome
+  pub answer : IsMatchedAnswer p budget first second c.compared.text c.told c.compared.outcome
   pub no_sink : SaysNoSink (first_format p) first c.no_sink
 
 -- Why two texts can't be compared: the first says nothing; the second says nothing; a fault of one of them or of both.
@@ -83,5 +84,5 @@ match_refusal (Faulty error) = error_refusal error
 
 -- The bytes of the task's source are the second text.
 abbrev pub match_task : FormatPair → ℕ → List ℕ → Task
-match_task p budget first = at_once most_of_netlist TwoComparison (IsMatchComparison p budget first) with_reply MatchFault
+match_task p budget first = at_once most_of_netlist NamedComparison (IsMatchComparison p budget first) named_reply MatchFault
     (MeetsMatchFault p first) match_refusal

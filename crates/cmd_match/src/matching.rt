@@ -5,7 +5,8 @@ ghost use Rattle.net_theory.specs.Limits.{most_of_netlist};
 ghost use Rattle.cmd_match.specs.MatchReport.{match_task};
 
 use crate::refusing::refusal_of;
-use cmd_equiv::{empty, reply_of_two};
+use cmd_equiv::empty;
+use cmd_formats::reply_of_named;
 use equiv_match::{CompareError, FormatPair, MatchError, compare_matched};
 use equiv_run::is_bare;
 use frame_core::{Replier, Reply, Stop};
@@ -16,7 +17,7 @@ use std::alloc::{AllocError, Global};
 use std::marker::PhantomData;
 
 /// The comparison of a netlist with that of the source by the names of inputs, outputs and latches: whether the two
-/// have the same outputs and next states, decided with the solver `S`.
+/// have the same outputs and next states, decided with the solver `S`. A difference is told by names on the notes.
 #[derive(Drop)]
 pub struct EquivMatched<'a, S, T> {
     /// The formats of the two netlists.
@@ -58,7 +59,7 @@ impl<'a, S: Solver, T: Tell> Replier for EquivMatched<'a, S, T> {
             self.budget,
             self.tell,
         ) {
-            Ok(two) => match reply_of_two(alloc, two) {
+            Ok(two) => match reply_of_named(alloc, two) {
                 Ok(reply) => Ok(reply),
                 Err(AllocError) => Err(Stop::NoMemory),
             },

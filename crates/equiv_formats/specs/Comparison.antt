@@ -1,5 +1,5 @@
 -- Two netlists, each a text of its own in a format of its own: the answers and the refusals.
-use Rattle.std.specs.Prelude.{◌≡◌, ℕ, Bool, List, Ok}
+use Rattle.std.specs.Prelude.{◌≡◌, ℕ, Bool, List, Option, Ok}
 use Rattle.net_theory.specs.Document.{Document}
 use Rattle.net_theory.specs.WellFormed.{IsWellFormed}
 use Rattle.net_document.specs.Listed.{Listed}
@@ -33,13 +33,14 @@ pub record AreNetlists (p : FormatPair) (first second : List ℕ) (one other : D
   pub first_is : Lists (first_format p) first one
   pub second_is : Lists (second_format p) second other
 
--- The texts are two netlists of one interface, and `text` is the answer for their documents.
-pub record IsFormatsAnswer (p : FormatPair) (budget : ℕ) (first second text : List ℕ) (outcome : EquivOutcome) : Type 0 where
+-- The texts are two netlists of one interface, `text` is the answer for their documents, and `told` what is told of a
+-- difference by names.
+pub record IsFormatsAnswer (p : FormatPair) (budget : ℕ) (first second text : List ℕ) (told : Option (List ℕ)) (outcome : EquivOutcome) : Type 0 where
   pub one : Document
   pub other : Document
   pub are : AreNetlists p first second one other
   pub interface : ShareInterface one other
-  pub reported : IsNamedAnswer budget one other text outcome
+  pub reported : IsNamedAnswer budget one other text told outcome
 
 -- The answer says whether the netlist of the text has neither an output nor a latch.
 abbrev pub SaysNoSink : Format → List ℕ → Bool → Type 0

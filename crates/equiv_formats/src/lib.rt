@@ -4,7 +4,7 @@
 //!
 //! The theorem is that of `compare_netlists`: `equal` is answered only if the documents that the two texts list, each
 //! in its format, are equivalent, and `differ` only with values of the sources under which an output or a next state
-//! differs, which the text tells by names too. Two texts that can't be compared are refused with their first fault, and nothing else is refused, but if
+//! differs, which is told by names too. Two texts that can't be compared are refused with their first fault, and nothing else is refused, but if
 //! memory runs out.
 //!
 //! ```text
@@ -19,7 +19,7 @@
 mod comparing;
 mod laws;
 
-pub use comparing::compare_netlists;
-pub use equiv_run::{CompareError, Compared, ComparedTwo, EquivOutcome};
+pub use comparing::{NamedTwo, compare_netlists, two_of};
+pub use equiv_run::{CompareError, Compared, EquivOutcome};
 pub use format_names::{FormatPair, NetFormat};
 pub use laws::netlists_have_an_answer_or_a_fault;

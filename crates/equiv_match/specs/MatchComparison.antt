@@ -1,5 +1,5 @@
 -- Two netlists that are compared by names, each a text of its own in a format of its own: the answers and the refusals.
-use Rattle.std.specs.Prelude.{◌≡◌, ℕ, List, Some}
+use Rattle.std.specs.Prelude.{◌≡◌, ℕ, List, Option, Some}
 use Rattle.net_theory.specs.Document.{Document}
 use Rattle.net_document.specs.Format.{HasNetFault}
 use Rattle.format_names.specs.declared.formats.FormatPair.{FormatPair}
@@ -15,15 +15,15 @@ use Rattle.match_core.specs.Lacks.{lack_of}
 use Rattle.equiv_match.specs.declared.error.MatchError.{MatchError}
 use Rattle.equiv_match.specs.declared.error.MatchError.TheVariants.{Refused, Lacks}
 
--- The texts are two netlists, neither of which lacks a name of the other, and `text` is the answer of `equiv` for the
--- first and for the second in the order of the first.
-pub record IsMatchedAnswer (p : FormatPair) (budget : ℕ) (first second text : List ℕ) (outcome : EquivOutcome) : Type 0 where
+-- The texts are two netlists, neither of which lacks a name of the other, and `text` and `told` are the answer of `equiv`
+-- for the first and for the second in the order of the first.
+pub record IsMatchedAnswer (p : FormatPair) (budget : ℕ) (first second text : List ℕ) (told : Option (List ℕ)) (outcome : EquivOutcome) : Type 0 where
   pub one : Document
   pub other : Document
   pub are : AreNetlists p first second one other
   pub names : ShareNames one other
   pub interface : ShareInterface one (matched one other)
-  pub reported : IsNamedAnswer budget one (matched one other) text outcome
+  pub reported : IsNamedAnswer budget one (matched one other) text told outcome
 
 -- One of two netlists lacks a name of the other, and this is the first such name.
 pub record IsLacking (p : FormatPair) (first second : List ℕ) (lack : Lack) : Type 0 where

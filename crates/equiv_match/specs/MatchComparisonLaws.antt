@@ -18,7 +18,7 @@ use Rattle.equiv_core.specs.Limits.{IsSmall}
 use Rattle.equiv_run.specs.declared.answer.EquivOutcome.{EquivOutcome}
 use Rattle.equiv_run.specs.declared.answer.CompareError.{CompareError}
 use Rattle.equiv_run.specs.declared.answer.CompareError.TheVariants.{NoSecond, First, Second, DifferentInterface, Memory}
-use Rattle.equiv_run.specs.declared.answer.ComparedTwo.{ComparedTwo}
+use Rattle.equiv_formats.specs.declared.comparing.NamedTwo.{NamedTwo}
 use Rattle.equiv_run.specs.Pairs.{ShareInterface}
 use Rattle.equiv_run.specs.PairLaws.{shared, have_same}
 use Rattle.equiv_values.specs.Named.{IsNamedCircuitAnswer}
@@ -148,11 +148,11 @@ ordered_small p first second c a short of is each =
 
 -- ---- the answers
 
-pub matched_answer : (p : FormatPair) (budget : ℕ) (first second : List ℕ) (c a : Circuit) (text : List ℕ) (outcome : EquivOutcome) →
+pub matched_answer : (p : FormatPair) (budget : ℕ) (first second : List ℕ) (c a : Circuit) (text : List ℕ) (told : Option (List ℕ)) (outcome : EquivOutcome) →
     IsCircuitOfText (first_format p) first c → IsChecked (second_format p) second c →
     ((l : Listed) → (second_format p).listed second ≡ Ok l → IsCircuitOf (ordered_in c l.document) a) →
-    IsNamedCircuitAnswer budget c a text outcome → IsMatchedAnswer p budget first second text outcome
-matched_answer p budget first second c a text outcome of is each reported =
+    IsNamedCircuitAnswer budget c a text told outcome → IsMatchedAnswer p budget first second text told outcome
+matched_answer p budget first second c a text told outcome of is each reported =
     let d = of.listed.document in
     let e = is.of.listed.document in
     let own = ordered_of p first second c a of is each in
@@ -161,8 +161,8 @@ matched_answer p budget first second c a text outcome of is each reported =
       other = e;
       are = are_netlists p first second c is.circuit of is.of;
       names = names_shared p first second c of is;
-      interface = shared d (matched d e) c a of.circuit.describes own.describes (named_interface budget c a text outcome reported);
-      reported = named_of budget d (matched d e) c a text outcome of.circuit own reported;
+      interface = shared d (matched d e) c a of.circuit.describes own.describes (named_interface budget c a text told outcome reported);
+      reported = named_of budget d (matched d e) c a text told outcome of.circuit own reported;
     }
 
 -- ---- the refusals
@@ -211,17 +211,17 @@ uncompared_refused p first second c a (Refused DifferentInterface) of is each ot
 uncompared_refused p first second c a (Refused Memory) of is each other = tt
 uncompared_refused p first second c a (Lacks lack) of is each other = absurd other
 
-pub first_passed : (p : FormatPair) (first second : List ℕ) (r : Result ComparedTwo MatchError) (e : MatchError) →
+pub first_passed : (p : FormatPair) (first second : List ℕ) (r : Result NamedTwo MatchError) (e : MatchError) →
     IsErrAnd r (λ d. d ≡ e) → IsReadFirst (first_format p) first e → IfErr r (IsMatchRefused p first second)
 first_passed p first second r e is refused = passed (IsMatchRefused p first second) r e is (first_refused p first second e refused)
 
-pub unchecked_passed : (p : FormatPair) (first second : List ℕ) (c : Circuit) (r : Result ComparedTwo MatchError) (e : MatchError) →
+pub unchecked_passed : (p : FormatPair) (first second : List ℕ) (c : Circuit) (r : Result NamedTwo MatchError) (e : MatchError) →
     IsErrAnd r (λ d. d ≡ e) → IsCircuitOfText (first_format p) first c → IsUnchecked (second_format p) second c e →
     IfErr r (IsMatchRefused p first second)
 unchecked_passed p first second c r e is of refused =
     passed (IsMatchRefused p first second) r e is (unchecked_refused p first second c e of refused)
 
-pub uncompared_passed : (p : FormatPair) (first second : List ℕ) (c a : Circuit) (r : Result ComparedTwo MatchError) (e : MatchError) →
+pub uncompared_passed : (p : FormatPair) (first second : List ℕ) (c a : Circuit) (r : Result NamedTwo MatchError) (e : MatchError) →
     IsErrAnd r (λ d. d ≡ e) → IsCircuitOfText (first_format p) first c → IsChecked (second_format p) second c →
     ((l : Listed) → (second_format p).listed second ≡ Ok l → IsCircuitOf (ordered_in c l.document) a) → IsUncompared c a e →
     IfErr r (IsMatchRefused p first second)
@@ -269,9 +269,9 @@ sound p first second d e (Refused DifferentInterface) are share same fault =
 sound p first second d e (Refused Memory) are share same fault = fault
 sound p first second d e (Lacks lack) are share same fault = shared_lacking p first second d e lack are share fault
 
-pub matched_apart : (p : FormatPair) (budget : ℕ) (first second text : List ℕ) (outcome : EquivOutcome) (error : MatchError) →
-    IsMatchedAnswer p budget first second text outcome → HasMatchFault p first second error → ⊥
-matched_apart p budget first second text outcome error is fault =
+pub matched_apart : (p : FormatPair) (budget : ℕ) (first second text : List ℕ) (told : Option (List ℕ)) (outcome : EquivOutcome) (error : MatchError) →
+    IsMatchedAnswer p budget first second text told outcome → HasMatchFault p first second error → ⊥
+matched_apart p budget first second text told outcome error is fault =
     sound p first second is.one is.other error is.are is.names is.interface fault
 
 -- both texts are netlists where a name or an interface is at fault

@@ -8,14 +8,16 @@ ghost use Rattle.net_formats.specs.Formats.{format_of};
 ghost use Rattle.equiv_core.specs.Limits.{IsSmall};
 ghost use Rattle.equiv_run.specs.Two.{lacks_sinks as lacks_sinks_of};
 ghost use Rattle.equiv_values.specs.Named.{IsNamedCircuitAnswer};
+ghost use Rattle.equiv_values.specs.Told.{told_in, told_text};
 ghost use Rattle.equiv_formats.specs.Comparison.{first_format, SaysNoSink};
 ghost use Rattle.equiv_match.specs.MatchComparison.{IsMatchedAnswer, IsMatchRefused};
 ghost use Rattle.equiv_match.specs.ReadingLaws.{IsReadFirst, IsReadSecond, IsChecked, IsUnchecked, IsUncompared};
 
 use crate::error::MatchError;
 use crate::ordering::ordered_circuit;
-use equiv_run::{CompareError, Compared, ComparedTwo};
-use equiv_values::compare_named;
+use equiv_formats::{NamedTwo, two_of};
+use equiv_run::CompareError;
+use equiv_values::{ComparedNamed, compare_named};
 use format_names::{FormatPair, NetFormat};
 use match_core::first_lack;
 use net_core::{Circuit, NetError};
@@ -83,18 +85,18 @@ fn compare_ordered<S: Solver, T: Tell>(
     second: &Circuit,
     conflicts: u32,
     tell: &T,
-) -> Result<Compared, MatchError>
+) -> Result<ComparedNamed, MatchError>
     requires first { IsProper first.now }
     requires second { IsProper second.now }
     requires small { IsSmall first.now.net }
     requires other { IsSmall second.now.net }
     requires budget { (1 ≤ conflicts) × (conflicts ≤ most_conflicts) }
     ensures reported { IfOk result (λ c.
-        IsNamedCircuitAnswer conflicts first.now second.now c.text.items c.outcome) }
+        IsNamedCircuitAnswer conflicts first.now second.now c.compared.text.items (told_text c) c.compared.outcome) }
     ensures refused { IfErr result (IsUncompared first.now second.now) }
 {
     match compare_named::<S, T>(alloc, first, second, conflicts, tell) {
-        Ok(compared) => Ok(compared),
+        Ok(named) => Ok(named),
         Err(error) => Err(MatchError::Refused(error)),
     }
 }
@@ -113,19 +115,19 @@ pub fn compare_matched<S: Solver, T: Tell>(
     second: &[u8],
     conflicts: u32,
     tell: &T,
-) -> Result<ComparedTwo, MatchError>
+) -> Result<NamedTwo, MatchError>
     requires first { length first.now ≤ most_of_two }
     requires second { length second.now ≤ most_of_two }
     requires budget { (1 ≤ conflicts) × (conflicts ≤ most_conflicts) }
     ensures answer { IfOk result (λ c. IsMatchedAnswer formats conflicts first.now second.now c.compared.text.items
-        c.compared.outcome) }
+        (told_in c.told) c.compared.outcome) }
     ensures no_sink { IfOk result (λ c. SaysNoSink (first_format formats) first.now c.no_sink) }
     ensures refused { IfErr result (IsMatchRefused formats first.now second.now) }
 {
     let one = read_first(alloc, formats.first, first)?;
     check_second(alloc, formats.second, second, &one)?;
     let other = ordered_circuit(alloc, formats.second, second, &one)?;
-    let compared = compare_ordered::<S, T>(alloc, &one, &other, conflicts, tell)?;
+    let named = compare_ordered::<S, T>(alloc, &one, &other, conflicts, tell)?;
     let no_sink = lacks_sinks(&one);
-    Ok(ComparedTwo { compared, no_sink })
+    Ok(two_of(named, no_sink))
 }

@@ -22,7 +22,8 @@ mod listing;
 mod ordering;
 
 pub use comparing::compare_matched;
-pub use equiv_run::{CompareError, Compared, ComparedTwo, EquivOutcome};
+pub use equiv_formats::NamedTwo;
+pub use equiv_run::{CompareError, Compared, EquivOutcome};
 pub use error::MatchError;
 pub use format_names::{FormatPair, NetFormat};
 pub use match_core::{Lack, NameKind};

@@ -1,5 +1,5 @@
 -- The first difference of two circuits under the bits of an answer is the one that the answer tells.
-use Rattle.std.specs.Prelude.{◌≡◌, ◌≢◌, ℕ, ◌+◌, ◌-◌, ◌≤◌, ◌<◌, ◌⊎◌, Bool, false, List, ◌++◌, length, map, slice_index_or}
+use Rattle.std.specs.Prelude.{◌≡◌, ◌≢◌, ℕ, ◌+◌, ◌-◌, ◌≤◌, ◌<◌, ◌⊎◌, Bool, false, List, length, map, slice_index_or, Some, None}
 use Rattle.std.proofs.Common.{arith, ap, sym, ◌∙◌, subst, refl, ⊎_elim, length-append}
 use Rattle.std.proofs.lemmas.Bool.{cases_lt}
 use Rattle.std.proofs.lemmas.List.{length-map}
@@ -9,11 +9,12 @@ use Rattle.net_theory.specs.Net.{bit_of, sig_value, value, sink_values}
 use Rattle.net_theory.specs.Circuit.{Circuit, IsProper, sources_of}
 use Rattle.equiv_theory.specs.Counterexample.{sink_bit, HaveSameInterface, IsCounterexample, DifferFirstAt}
 use Rattle.equiv_theory.specs.CircuitLaws.{comparable}
-use Rattle.equiv_run.specs.Texts.{differ_text}
-use Rattle.equiv_run.specs.CircuitAnswers.{AreDifferent}
+use Rattle.equiv_run.specs.declared.answer.EquivOutcome.{EquivOutcome}
+use Rattle.equiv_run.specs.declared.answer.EquivOutcome.TheVariants.{Equal, Differ, Undecided}
+use Rattle.equiv_run.specs.CircuitAnswers.{AreDifferent, IsCircuitAnswer}
 use Rattle.equiv_values.specs.Spelled.{spelled_bits}
 use Rattle.equiv_values.specs.SpelledLaws.{spelled_back, differ_long}
-use Rattle.equiv_values.specs.Named.{named_text, difference_text, AreNamedDifferent}
+use Rattle.equiv_values.specs.Named.{named_text, AreNamedDifferent, IsNamedCircuitAnswer}
 
 -- ---- the bits of the answer
 
@@ -107,16 +108,16 @@ place_is c k text bits ones others i is e first second differ least =
     (λ m low. at m ∙ is.differ.first_sink.least m low ∙ sym (at' m)) in
     omega (arith, same, is.differ.counted)
 
-pub named : (c k : Circuit) (old new : List ℕ) (bits ones others : List Bool) (i : ℕ) → AreDifferent c k old →
-    bits ≡ spelled_bits old c.net.sources → ones ≡ sink_values c.net (bit_of bits) →
+pub named : (c k : Circuit) (text told : List ℕ) (bits ones others : List Bool) (i : ℕ) → AreDifferent c k text →
+    bits ≡ spelled_bits text c.net.sources → ones ≡ sink_values c.net (bit_of bits) →
     others ≡ sink_values k.net (bit_of bits) → slice_index_or ones i false ≢ slice_index_or others i false →
     ((m : ℕ) → m < i → slice_index_or ones m false ≡ slice_index_or others m false) →
-    new ≡ old ++ named_text (sources_of c) c.outputs c.latches (i + 1) bits (slice_index_or ones i false)
+    told ≡ named_text (sources_of c) c.outputs c.latches (i + 1) bits (slice_index_or ones i false)
     (slice_index_or others i false) →
-    AreNamedDifferent c k new
-named c k old new bits ones others i is found first second differ least written =
-    let e : bits ≡ is.bits = bits_are c k old bits is found in
-    let sink : i + 1 ≡ is.sink = place_is c k old bits ones others i is e first second differ least in
+    AreNamedDifferent c k text (Some told)
+named c k text told bits ones others i is found first second differ least written =
+    let e : bits ≡ is.bits = bits_are c k text bits is found in
+    let sink : i + 1 ≡ is.sink = place_is c k text bits ones others i is e first second differ least in
     let back : i ≡ is.sink - 1 = omega (arith, sink) in
     let one : slice_index_or ones i false ≡ sink_bit c.net (bit_of is.bits) (is.sink - 1) =
     ap (λ (xs : List Bool). slice_index_or xs i false) (first ∙ ap (λ (bs : List Bool). sink_values c.net (bit_of bs)) e)
@@ -129,16 +130,40 @@ named c k old new bits ones others i is found first second differ least written 
       sink = is.sink;
       bits = is.bits;
       differ = is.differ;
-      text_is = written
-          ∙ ap (λ (xs : List ℕ). xs ++ named_text (sources_of c) c.outputs c.latches (i + 1) bits (slice_index_or ones i false)
-          (slice_index_or others i false)) is.text_is
-          ∙ ap (λ (n : ℕ). differ_text c.outputs c.latches is.sink is.bits ++ named_text (sources_of c) c.outputs c.latches n bits
-          (slice_index_or ones i false) (slice_index_or others i false)) sink
-          ∙ ap (λ (bs : List Bool). differ_text c.outputs c.latches is.sink is.bits ++ named_text (sources_of c) c.outputs c.latches
-          is.sink bs (slice_index_or ones i false) (slice_index_or others i false)) e
-          ∙ ap (λ (b : Bool). difference_text (sources_of c) c.outputs c.latches is.sink is.bits b (slice_index_or others i false)) one
-          ∙ ap (λ (b : Bool). difference_text (sources_of c) c.outputs c.latches is.sink is.bits
-          (sink_bit c.net (bit_of is.bits) (is.sink - 1)) b) other;
+      text_is = is.text_is;
+      told_is = ap Some (written
+          ∙ ap (λ (n : ℕ). named_text (sources_of c) c.outputs c.latches n bits (slice_index_or ones i false)
+          (slice_index_or others i false)) sink
+          ∙ ap (λ (bs : List Bool). named_text (sources_of c) c.outputs c.latches is.sink bs (slice_index_or ones i false)
+          (slice_index_or others i false)) e
+          ∙ ap (λ (b : Bool). named_text (sources_of c) c.outputs c.latches is.sink is.bits b (slice_index_or others i false)) one
+          ∙ ap (λ (b : Bool). named_text (sources_of c) c.outputs c.latches is.sink is.bits
+          (sink_bit c.net (bit_of is.bits) (is.sink - 1)) b) other);
     }
 
 pub ruleset differing = (common_steps, room, first_long, second_long, sinks_long, sinks_within, inputs_within, never_same, named)
+
+-- ---- by the outcome
+
+pub told_equal : (budget : ℕ) (c k : Circuit) (text : List ℕ) (outcome : EquivOutcome) → outcome ≡ Equal →
+    IsCircuitAnswer budget c k text outcome → IsNamedCircuitAnswer budget c k text None outcome
+told_equal budget c k text outcome is answer =
+    subst (λ (o : EquivOutcome). IsNamedCircuitAnswer budget c k text None o) (sym is)
+    (subst (IsCircuitAnswer budget c k text) is answer, refl)
+
+pub told_undecided : (budget : ℕ) (c k : Circuit) (text : List ℕ) (outcome : EquivOutcome) → outcome ≡ Undecided →
+    IsCircuitAnswer budget c k text outcome → IsNamedCircuitAnswer budget c k text None outcome
+told_undecided budget c k text outcome is answer =
+    subst (λ (o : EquivOutcome). IsNamedCircuitAnswer budget c k text None o) (sym is)
+    (subst (IsCircuitAnswer budget c k text) is answer, refl)
+
+pub differ_told : (budget : ℕ) (c k : Circuit) (text : List ℕ) (outcome : EquivOutcome) → outcome ≡ Differ →
+    IsCircuitAnswer budget c k text outcome → AreDifferent c k text
+differ_told budget c k text outcome is answer = subst (IsCircuitAnswer budget c k text) is answer
+
+pub told_differ : (budget : ℕ) (c k : Circuit) (text told : List ℕ) (outcome : EquivOutcome) → outcome ≡ Differ →
+    AreNamedDifferent c k text (Some told) → IsNamedCircuitAnswer budget c k text (Some told) outcome
+told_differ budget c k text told outcome is named =
+    subst (λ (o : EquivOutcome). IsNamedCircuitAnswer budget c k text (Some told) o) (sym is) named
+
+pub ruleset telling = (common_steps, told_equal, told_undecided, differ_told, told_differ)

@@ -5,3 +5,4 @@ pub mod SpelledLaws
 pub mod Named
 pub mod NamedLaws
 pub mod DifferingLaws
+pub mod Told

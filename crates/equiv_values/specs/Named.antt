@@ -1,5 +1,5 @@
--- The answer of a comparison, where a difference is told by names too.
-use Rattle.std.specs.Prelude.{◌≡◌, ℕ, ◌-◌, ◌++◌, Bool, List, map, codes}
+-- The answer of a comparison, and what is told of a difference by names.
+use Rattle.std.specs.Prelude.{◌≡◌, ℕ, ◌-◌, ◌++◌, Bool, List, map, Option, Some, None, codes}
 use Rattle.net_theory.specs.Document.{Name, Latch, Document, latches_of, source_names}
 use Rattle.net_theory.specs.Behaviour.{IsValuationOf}
 use Rattle.net_theory.specs.Net.{bit_of}
@@ -20,32 +20,29 @@ unfoldable pub named_text : List Name → List Name → List Latch → ℕ → L
 named_text sources outputs latches sink bits one other =
     codes "differ " ++ (sink_line outputs latches sink one other ++ source_lines sources bits)
 
--- the answer `differ` of two lines, and then the lines with names
-abbrev pub difference_text : List Name → List Name → List Latch → ℕ → List Bool → Bool → Bool → List ℕ
-difference_text sources outputs latches sink bits one other =
-    differ_text outputs latches sink bits ++ named_text sources outputs latches sink bits one other
-
 -- ---- two circuits
 
--- They differ under the values in the text, at the sink in the text and at none before it, which has these two values.
-pub record AreNamedDifferent (c k : Circuit) (text : List ℕ) : Type 0 where
+-- They differ under the values in the text, at the sink in the text and at none before it, and the values there are told.
+pub record AreNamedDifferent (c k : Circuit) (text : List ℕ) (told : Option (List ℕ)) : Type 0 where
   pub interface : HaveSameInterface c k
   pub sink : ℕ
   pub bits : List Bool
   pub differ : IsCounterexample c.net k.net sink bits
-  pub text_is : text ≡ difference_text (sources_of c) c.outputs c.latches sink bits
-      (sink_bit c.net (bit_of bits) (sink - 1)) (sink_bit k.net (bit_of bits) (sink - 1))
+  pub text_is : text ≡ differ_text c.outputs c.latches sink bits
+  pub told_is : told ≡ Some (named_text (sources_of c) c.outputs c.latches sink bits
+      (sink_bit c.net (bit_of bits) (sink - 1)) (sink_bit k.net (bit_of bits) (sink - 1)))
 
-abbrev pub IsNamedCircuitAnswer : ℕ → Circuit → Circuit → List ℕ → EquivOutcome → Type 0
-IsNamedCircuitAnswer budget c k text Equal = AreEqual budget c k text
-IsNamedCircuitAnswer budget c k text Differ = AreNamedDifferent c k text
-IsNamedCircuitAnswer budget c k text Undecided = AreUndecided budget c k text
+-- Of netlists that aren't found to differ nothing is told.
+abbrev pub IsNamedCircuitAnswer : ℕ → Circuit → Circuit → List ℕ → Option (List ℕ) → EquivOutcome → Type 0
+IsNamedCircuitAnswer budget c k text told Equal = AreEqual budget c k text × (told ≡ None)
+IsNamedCircuitAnswer budget c k text told Differ = AreNamedDifferent c k text told
+IsNamedCircuitAnswer budget c k text told Undecided = AreUndecided budget c k text × (told ≡ None)
 
 -- ---- two documents
 
 -- They differ under the values in the text, at the sink in the text and at none before it. There the first has the value
--- `one` and the second the value `other`, under every assignment that gives the sources these values.
-pub record IsNamedDifference (d e : Document) (text : List ℕ) : Type 0 where
+-- `one` and the second the value `other`, under every assignment that gives the sources these values; and that is told.
+pub record IsNamedDifference (d e : Document) (text : List ℕ) (told : Option (List ℕ)) : Type 0 where
   pub sink : ℕ
   pub bits : List Bool
   pub differ : DocumentsDiffer d e sink bits
@@ -55,10 +52,11 @@ pub record IsNamedDifference (d e : Document) (text : List ℕ) : Type 0 where
       sink_in d v (sink - 1) ≡ one
   pub second_value : (given w : Name → Bool) → map given (source_names d) ≡ bits → IsValuationOf e given w →
       sink_in e w (sink - 1) ≡ other
-  pub text_is : text ≡ difference_text (source_names d) d.outputs (latches_of d) sink bits one other
+  pub text_is : text ≡ differ_text d.outputs (latches_of d) sink bits
+  pub told_is : told ≡ Some (named_text (source_names d) d.outputs (latches_of d) sink bits one other)
 
--- the answer of `equiv` for two documents, with names where they differ
-abbrev pub IsNamedAnswer : ℕ → Document → Document → List ℕ → EquivOutcome → Type 0
-IsNamedAnswer budget d e text Equal = IsEqualAnswer budget d e text
-IsNamedAnswer budget d e text Differ = IsNamedDifference d e text
-IsNamedAnswer budget d e text Undecided = IsUndecidedAnswer budget d e text
+-- the answer of `equiv` for two documents, and what is told by names
+abbrev pub IsNamedAnswer : ℕ → Document → Document → List ℕ → Option (List ℕ) → EquivOutcome → Type 0
+IsNamedAnswer budget d e text told Equal = IsEqualAnswer budget d e text × (told ≡ None)
+IsNamedAnswer budget d e text told Differ = IsNamedDifference d e text told
+IsNamedAnswer budget d e text told Undecided = IsUndecidedAnswer budget d e text × (told ≡ None)

@@ -1,5 +1,5 @@
 //! The names of a difference.
-ghost use Rattle.std.specs.Prelude.{◌≡◌, ◌≢◌, ℕ, ◌+◌, ◌≤◌, ◌<◌, ◌++◌, length, false, slice_index_or};
+ghost use Rattle.std.specs.Prelude.{◌≡◌, ◌≢◌, ℕ, ◌+◌, ◌≤◌, ◌<◌, ◌++◌, length, false, slice_index_or, Some};
 ghost use Rattle.std.specs.Prelude.{IfOk, OnOk, IfSome, IfNone};
 ghost use Rattle.net_theory.specs.Circuit.{IsProper, sources_of};
 ghost use Rattle.equiv_run.specs.CircuitAnswers.{AreDifferent};
@@ -51,18 +51,18 @@ fn push_named(
     Ok(())
 }
 
-/// Appends the lines with names to the answer that two circuits differ.
+/// The lines with names for the answer that two circuits differ.
 #[tactic(auto, using(crate::specs::DifferingLaws::differing))]
-pub(crate) fn push_difference(
+pub(crate) fn told_difference(
     alloc: Global,
-    text: &mut Vec<u8>,
+    text: &[u8],
     first: &Circuit,
     second: &Circuit,
-) -> Result<(), AllocError>
+) -> Result<Vec<u8>, AllocError>
     requires first { IsProper first.now }
     requires second { IsProper second.now }
-    requires differ { AreDifferent first.now second.now text.old.items }
-    ensures { OnOk result (AreNamedDifferent first.now second.now text.new.items) }
+    requires differ { AreDifferent first.now second.now text.now }
+    ensures { IfOk result (λ told. AreNamedDifferent first.now second.now text.now (Some told.items)) }
 {
     let bits = spelled_bits(alloc, text, first.net.sources() as usize)?;
     let ones = sink_bits(alloc, &first.net, &bits)?;
@@ -70,6 +70,14 @@ pub(crate) fn push_difference(
     let Some(index) = first_other(&ones, &others) else {
         unreachable!()
     };
-    push_named(text, first, index + 1, &bits, ones[index], others[index])?;
-    Ok(())
+    let mut told = Vec::new(alloc);
+    push_named(
+        &mut told,
+        first,
+        index + 1,
+        &bits,
+        ones[index],
+        others[index],
+    )?;
+    Ok(told)
 }
