@@ -5,7 +5,7 @@ ghost use Rattle.net_theory.specs.Limits.{most_of_two};
 ghost use Rattle.net_document.specs.Format.{IsCircuitOfText};
 ghost use Rattle.net_formats.specs.Formats.{format_of};
 ghost use Rattle.equiv_run.specs.Two.{lacks_sinks as lacks_sinks_of};
-ghost use Rattle.equiv_values.specs.Told.{told_in, told_text};
+ghost use Rattle.equiv_values.specs.Told.{told_in};
 ghost use Rattle.equiv_formats.specs.Comparison.{first_format, IsFormatsAnswer, IsFormatsRefused, SaysNoSink};
 ghost use Rattle.equiv_formats.specs.Comparison.{IsFirstRefused, IsSecondRefused};
 
@@ -27,21 +27,6 @@ pub struct NamedTwo {
     pub told: Option<Vec<u8>>,
     /// Whether neither netlist has an output or a latch, so that nothing was compared.
     pub no_sink: bool,
-}
-
-/// The comparison of two circuits, as one of two netlists.
-pub fn two_of(named: ComparedNamed, no_sink: bool) -> NamedTwo
-    ensures text { result.compared.text.items ≡ named.compared.text.items }
-    ensures outcome { result.compared.outcome ≡ named.compared.outcome }
-    ensures told { told_in result.told ≡ told_text named }
-    ensures no_sink { result.no_sink ≡ no_sink }
-{
-    let ComparedNamed { compared, told } = named;
-    NamedTwo {
-        compared,
-        told,
-        no_sink,
-    }
 }
 
 /// Reads the first netlist.
@@ -104,5 +89,10 @@ pub fn compare_netlists<S: Solver, T: Tell>(
     let other = read_second(alloc, formats.second, second)?;
     let named = compare_named::<S, T>(alloc, &one, &other, conflicts, tell)?;
     let no_sink = lacks_sinks(&one);
-    Ok(two_of(named, no_sink))
+    let ComparedNamed { compared, told } = named;
+    Ok(NamedTwo {
+        compared,
+        told,
+        no_sink,
+    })
 }

@@ -19,7 +19,7 @@
 mod comparing;
 mod laws;
 
-pub use comparing::{NamedTwo, compare_netlists, two_of};
+pub use comparing::{NamedTwo, compare_netlists};
 pub use equiv_run::{CompareError, Compared, EquivOutcome};
 pub use format_names::{FormatPair, NetFormat};
 pub use laws::netlists_have_an_answer_or_a_fault;

@@ -15,7 +15,7 @@ ghost use Rattle.equiv_match.specs.ReadingLaws.{IsReadFirst, IsReadSecond, IsChe
 
 use crate::error::MatchError;
 use crate::ordering::ordered_circuit;
-use equiv_formats::{NamedTwo, two_of};
+use equiv_formats::NamedTwo;
 use equiv_run::CompareError;
 use equiv_values::{ComparedNamed, compare_named};
 use format_names::{FormatPair, NetFormat};
@@ -129,5 +129,10 @@ pub fn compare_matched<S: Solver, T: Tell>(
     let other = ordered_circuit(alloc, formats.second, second, &one)?;
     let named = compare_ordered::<S, T>(alloc, &one, &other, conflicts, tell)?;
     let no_sink = lacks_sinks(&one);
-    Ok(two_of(named, no_sink))
+    let ComparedNamed { compared, told } = named;
+    Ok(NamedTwo {
+        compared,
+        told,
+        no_sink,
+    })
 }

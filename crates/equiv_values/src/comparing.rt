@@ -12,7 +12,7 @@ use equiv_run::{CompareError, Compared, EquivOutcome, compare_circuits};
 use net_core::Circuit;
 use progress::Tell;
 use sat_solve::Solver;
-use std::alloc::Global;
+use std::alloc::{AllocError, Global};
 
 /// The comparison of two circuits, and what is told of a difference.
 #[derive(Drop)]

@@ -13,8 +13,8 @@ compare_named-requires-clause-other g c =
 
 pub returns-clause-answer : goal.returns-clause-answer
 returns-clause-answer g c =
-    formats_answer c.args.formats c.args.conflicts c.args.first.now c.args.second.now c.in_ok-one.one c.in_ok-other.other _ _
-    c.in_ok-one.ensures.circuit c.in_ok-other.ensures.circuit c.in_ok-compared.ensures.reported
+    formats_answer c.args.formats c.args.conflicts c.args.first.now c.args.second.now c.in_ok-one.one c.in_ok-other.other _ _ _
+    c.in_ok-one.ensures.circuit c.in_ok-other.ensures.circuit c.in_ok-named.ensures.reported
 
 pub returns-clause-no_sink : goal.returns-clause-no_sink
 returns-clause-no_sink g c =
@@ -31,8 +31,8 @@ returns-in_err-other-clause-refused g c =
     second_passed c.args.formats c.args.first.now c.args.second.now c.in_ok-one.one _ c.in_err-other.field-0.0
     c.from_residual-in_err-other.ensures.1 c.in_ok-one.ensures.circuit c.in_err-other.ensures.refused
 
-pub returns-in_err-compared-clause-refused : goal.returns-in_err-compared-clause-refused
-returns-in_err-compared-clause-refused g c =
+pub returns-in_err-named-clause-refused : goal.returns-in_err-named-clause-refused
+returns-in_err-named-clause-refused g c =
     other_passed c.args.formats c.args.first.now c.args.second.now c.in_ok-one.one c.in_ok-other.other _
-    c.in_err-compared.field-0.0 c.from_residual-in_err-compared.ensures.1 c.in_ok-one.ensures.circuit
-    c.in_ok-other.ensures.circuit c.in_err-compared.ensures.refused
+    c.in_err-named.field-0.0 c.from_residual-in_err-named.ensures.1 c.in_ok-one.ensures.circuit
+    c.in_ok-other.ensures.circuit c.in_err-named.ensures.refused
