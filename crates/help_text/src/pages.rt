@@ -262,8 +262,8 @@ which the first ends with `.end`.
 
   equal              they are equivalent; an LRAT refutation of their miter follows, and `done`
   differ output Y    output Y differs (or `differ latch Q`) where the inputs and latches have the values
-                     of the next line, `at BITS`; of two files `differ output Y: 0 and 1` follows, with
-                     the values in both, and a line `A=1` for each input and latch
+                     of the next line, `at BITS`; of two files `differ output Y: 0 and 1` follows on
+                     standard error, with the values in both, and `A=1` for each input and latch
   undecided          the budget was spent; the learnt clauses follow
 
 The error `DifferentInterface`: inputs, outputs and clocks, in order, and each latch's output, control and
