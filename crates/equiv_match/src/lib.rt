@@ -18,6 +18,7 @@
 
 mod comparing;
 mod error;
+mod laws;
 mod listing;
 mod ordering;
 
@@ -26,4 +27,5 @@ pub use equiv_formats::NamedTwo;
 pub use equiv_run::{CompareError, Compared, EquivOutcome};
 pub use error::MatchError;
 pub use format_names::{FormatPair, NetFormat};
+pub use laws::matched_netlists_have_an_answer_or_a_fault;
 pub use match_core::{Lack, NameKind};
