@@ -2,7 +2,9 @@
 ghost use Rattle.std.specs.Prelude.{◌≡◌, ◌≢◌, ℕ, ◌+◌, ◌≤◌, ◌<◌, ◌++◌, length, false, slice_index_or, Some};
 ghost use Rattle.std.specs.Prelude.{IfOk, OnOk, IfSome, IfNone};
 ghost use Rattle.net_theory.specs.Circuit.{IsProper, sources_of};
+ghost use Rattle.equiv_theory.specs.Counterexample.{HaveSameInterface};
 ghost use Rattle.equiv_run.specs.CircuitAnswers.{AreDifferent};
+ghost use Rattle.equiv_values.specs.DifferingLaws.{DifferUnder, TellsUnder, TellsPlace};
 ghost use Rattle.equiv_values.specs.Named.{named_text, AreNamedDifferent};
 
 use crate::lines::{push_sink, push_sources};
@@ -51,8 +53,57 @@ fn push_named(
     Ok(())
 }
 
+/// The lines with names for values of the sinks, which differ somewhere.
+#[tactic(auto, using(crate::specs::DifferingLaws::placing))]
+fn told_values(
+    alloc: Global,
+    circuit: &Circuit,
+    bits: &[bool],
+    ones: &[bool],
+    others: &[bool],
+) -> Result<Vec<u8>, AllocError>
+    requires sources { length circuit.now.inputs ≤ length bits.now }
+    requires sinks { length ones.now ≡ length circuit.now.outputs + length circuit.now.latches }
+    requires others { length ones.now ≡ length others.now }
+    requires differ { ((j : ℕ) → j < length ones.now →
+        slice_index_or ones.now j false ≡ slice_index_or others.now j false) → ⊥ }
+    ensures { IfOk result (λ told. TellsPlace circuit.now bits.now ones.now others.now told.items) }
+{
+    let Some(index) = first_other(ones, others) else {
+        unreachable!()
+    };
+    let mut told = Vec::new(alloc);
+    push_named(
+        &mut told,
+        circuit,
+        index + 1,
+        bits,
+        ones[index],
+        others[index],
+    )?;
+    Ok(told)
+}
+
+/// The lines with names for a counterexample.
+#[tactic(auto, using(crate::specs::DifferingLaws::simulating))]
+fn told_under(
+    alloc: Global,
+    first: &Circuit,
+    second: &Circuit,
+    bits: &[bool],
+) -> Result<Vec<u8>, AllocError>
+    requires first { IsProper first.now }
+    requires second { IsProper second.now }
+    requires interface { HaveSameInterface first.now second.now }
+    requires differ { DifferUnder first.now second.now bits.now }
+    ensures { IfOk result (λ told. TellsUnder first.now second.now bits.now told.items) }
+{
+    let ones = sink_bits(alloc, &first.net, bits)?;
+    let others = sink_bits(alloc, &second.net, bits)?;
+    told_values(alloc, first, bits, &ones, &others)
+}
+
 /// The lines with names for the answer that two circuits differ.
-#[tactic(auto, using(crate::specs::DifferingLaws::differing))]
 pub(crate) fn told_difference(
     alloc: Global,
     text: &[u8],
@@ -64,20 +115,8 @@ pub(crate) fn told_difference(
     requires differ { AreDifferent first.now second.now text.now }
     ensures { IfOk result (λ told. AreNamedDifferent first.now second.now text.now (Some told.items)) }
 {
-    let bits = spelled_bits(alloc, text, first.net.sources() as usize)?;
-    let ones = sink_bits(alloc, &first.net, &bits)?;
-    let others = sink_bits(alloc, &second.net, &bits)?;
-    let Some(index) = first_other(&ones, &others) else {
-        unreachable!()
-    };
-    let mut told = Vec::new(alloc);
-    push_named(
-        &mut told,
-        first,
-        index + 1,
-        &bits,
-        ones[index],
-        others[index],
-    )?;
+    let count = first.net.sources() as usize;
+    let bits = spelled_bits(alloc, text, count)?;
+    let told = told_under(alloc, first, second, &bits)?;
     Ok(told)
 }
