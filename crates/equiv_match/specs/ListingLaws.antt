@@ -10,7 +10,7 @@ use Rattle.aiger_text.specs.Meaning.{listed}
 use Rattle.aiger_text.specs.Reading.{◌>>=◌}
 use Rattle.aiger_text.specs.Statements.{file_of}
 use Rattle.aiger_core.specs.Aiger.{listed_of, aiger_format}
-use Rattle.aiger_binary.specs.Ascii.{is_binary, ascii_of, ascii_in}
+use Rattle.aiger_binary.specs.Ascii.{is_binary, ascii_of}
 use Rattle.aiger_forms.specs.Forms.{aiger_forms}
 
 abbrev list_in : Result AigFile NetError → Result Listed NetError

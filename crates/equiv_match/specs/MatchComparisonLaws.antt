@@ -16,7 +16,6 @@ use Rattle.net_formats.specs.Formats.{format_of}
 use Rattle.net_formats.specs.FormatLaws.{lists_well}
 use Rattle.equiv_core.specs.Limits.{IsSmall}
 use Rattle.equiv_run.specs.declared.answer.EquivOutcome.{EquivOutcome}
-use Rattle.equiv_run.specs.declared.answer.CompareError.{CompareError}
 use Rattle.equiv_run.specs.declared.answer.CompareError.TheVariants.{NoSecond, First, Second, DifferentInterface, Memory}
 use Rattle.equiv_formats.specs.declared.comparing.NamedTwo.{NamedTwo}
 use Rattle.equiv_run.specs.Pairs.{ShareInterface}
@@ -31,7 +30,7 @@ use Rattle.match_core.specs.MatchedLaws as matching
 use Rattle.match_core.specs.Lacks.{lack_of}
 use Rattle.equiv_match.specs.declared.error.MatchError.{MatchError}
 use Rattle.equiv_match.specs.declared.error.MatchError.TheVariants.{Refused, Lacks}
-use Rattle.equiv_match.specs.MatchComparison.{IsMatchedAnswer, IsLacking, DifferByNames, HasMatchFault, IsMatchRefused}
+use Rattle.equiv_match.specs.MatchComparison.{IsMatchedAnswer, IsLacking, HasMatchFault, IsMatchRefused}
 use Rattle.equiv_match.specs.OrderLaws.{ordered_in, ordered_is, CanOrder, can_order}
 use Rattle.equiv_match.specs.ReadingLaws.{IsReadFirst, lack_same, IsChecked, IsLackOf, IsUnchecked, IsUncompared, passed}
 

@@ -1,23 +1,22 @@
 -- A netlist in the order of a circuit.
-use Rattle.std.specs.Prelude.{◌≡◌, ℕ, ◌+◌, ◌*◌, ◌≤◌, ◌<◌, ◌^◌, List, length, map, Result, Ok, None, Some, Option}
+use Rattle.std.specs.Prelude.{◌≡◌, ℕ, ◌+◌, ◌*◌, ◌≤◌, ◌<◌, ◌^◌, List, length, map, Result, Ok}
 use Rattle.std.proofs.Common.{arith, ap, sym, ◌∙◌, subst, length-append}
 use Rattle.std.proofs.lemmas.List.{length-map}
 use Rattle.std.proofs.lemmas.Grind.{common_steps}
-use Rattle.net_theory.specs.Limits.{most_gates, most_of_two}
-use Rattle.net_theory.specs.Document.{Name, Latch, Document, latches_of, latch_of, latch_output, driven_names, source_names}
+use Rattle.net_theory.specs.Limits.{most_of_two}
+use Rattle.net_theory.specs.Document.{Name, Latch, Document, latches_of, latch_of, latch_output}
 use Rattle.net_theory.specs.WellFormed.{IsWellFormed}
 use Rattle.net_theory.specs.Cost.{cost}
 use Rattle.net_theory.specs.NetOf.{source_count}
 use Rattle.net_theory.specs.Circuit.{Circuit, Describes, IsCircuitOf}
 use Rattle.net_core.specs.declared.error.NetError.{NetError}
-use Rattle.net_document.specs.Listed.{Listed, IsWellListed, AreControlsFree, times}
+use Rattle.net_document.specs.Listed.{Listed, IsWellListed, AreControlsFree}
 use Rattle.net_document.specs.Format.{IsCircuitOfText}
 use Rattle.net_formats.specs.Formats.{format_of}
 use Rattle.net_formats.specs.FormatLaws.{texts_few}
 use Rattle.format_names.specs.declared.formats.NetFormat.{NetFormat}
-use Rattle.match_core.specs.declared.lacking.Lack.{Lack}
 use Rattle.match_core.specs.Matched.{ShareNames, ordered, matched, latch_names}
-use Rattle.match_core.specs.MatchedLaws.{matched_well, matched_sources}
+use Rattle.match_core.specs.MatchedLaws.{matched_sources}
 use Rattle.match_core.specs.ListedLaws.{read_names, arranged_well, arranged_free}
 
 -- the netlist in the order of a circuit

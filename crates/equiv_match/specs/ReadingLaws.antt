@@ -5,7 +5,6 @@ use Rattle.std.proofs.lemmas.Grind.{common_steps}
 use Rattle.net_theory.specs.Document.{Name, Latch, Document, latches_of, latch_output}
 use Rattle.net_theory.specs.Circuit.{Circuit, Describes}
 use Rattle.net_document.specs.Format.{Format, IsCircuitOfText, HasNetFault}
-use Rattle.equiv_run.specs.declared.answer.CompareError.{CompareError}
 use Rattle.equiv_run.specs.declared.answer.CompareError.TheVariants.{NoSecond, First, Second, DifferentInterface, Memory}
 use Rattle.equiv_run.specs.CircuitAnswers.{IsOther}
 use Rattle.match_core.specs.declared.lacking.Lack.{Lack}

@@ -7,7 +7,7 @@ use Rattle.std.proofs.lemmas.Grind.{common_steps}
 use Rattle.net_theory.specs.Document.{latch_output}
 use Rattle.net_theory.specs.Net.{bit_of, sig_value, value, sink_values}
 use Rattle.net_theory.specs.Circuit.{Circuit, IsProper, sources_of}
-use Rattle.equiv_theory.specs.Counterexample.{sink_bit, HaveSameInterface, IsCounterexample, DifferFirstAt}
+use Rattle.equiv_theory.specs.Counterexample.{sink_bit, HaveSameInterface, IsCounterexample}
 use Rattle.equiv_theory.specs.CircuitLaws.{comparable}
 use Rattle.equiv_run.specs.declared.answer.EquivOutcome.{EquivOutcome}
 use Rattle.equiv_run.specs.declared.answer.EquivOutcome.TheVariants.{Equal, Differ, Undecided}

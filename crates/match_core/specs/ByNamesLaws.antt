@@ -1,14 +1,14 @@
 -- The second netlist in the order of the first is equivalent to the first exactly if the two are equivalent by names.
-use Rattle.std.specs.Prelude.{◌≡◌, ◌↔◌, ℕ, zero, suc, Bool, true, false, List, [], ◌∷◌, ◌++◌, length, map, All, slice_get, Option, Some, None, refl}
+use Rattle.std.specs.Prelude.{◌≡◌, ◌↔◌, ℕ, zero, suc, Bool, true, false, List, [], ◌∷◌, ◌++◌, length, map, slice_get, Option, Some, refl}
 use Rattle.std.specs.List.{cons_option}
 use Rattle.std.proofs.Common.{arith, sym, ◌∙◌, ap, subst, ⊎_elim}
 use Rattle.std.proofs.lemmas.Simd.{map-map}
-use Rattle.net_theory.specs.Document.{Name, has, are_distinct, Latch, LatchLine, Document, latch_of, latches_of, latch_output, latch_input, table_output, source_names, sink_names, driven_names}
-use Rattle.net_theory.specs.NameLaws.{has_first, has_later, has_cases, has_none, has_all, all_has, has_at, map_at, distinct_left, distinct_right, distinct_index}
+use Rattle.net_theory.specs.Document.{Name, has, are_distinct, LatchLine, Document, latch_of, latches_of, latch_output, latch_input, table_output, source_names, driven_names}
+use Rattle.net_theory.specs.NameLaws.{has_first, has_later, has_cases, has_none, has_all, all_has, map_at, distinct_left, distinct_right, distinct_index}
 use Rattle.net_theory.specs.Behaviour.{IsValuationOf, HasOneValuation, IsEquivalent}
 use Rattle.net_theory.specs.WellFormed.{IsWellFormed}
-use Rattle.match_core.specs.Matched.{latch_names, ShareNames, line_named, matched, AgreeOn, IsEquivalentByNames}
-use Rattle.match_core.specs.MatchedLaws.{names_of, IsFound, line_found, picked, matched_same, driven_same}
+use Rattle.match_core.specs.Matched.{ShareNames, line_named, matched, AgreeOn, IsEquivalentByNames}
+use Rattle.match_core.specs.MatchedLaws.{names_of, line_found, picked, matched_same, driven_same}
 
 -- ---- valuations don't depend on the order
 

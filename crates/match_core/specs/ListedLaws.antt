@@ -1,9 +1,9 @@
 -- What a text lists, in the order of another netlist.
-use Rattle.std.specs.Prelude.{◌≡◌, ℕ, ◌+◌, ◌≤◌, ◌<◌, Bool, true, false, if◌then◌else◌, List, [], ◌∷◌, ◌++◌, length, map, All, Option, Some, None}
+use Rattle.std.specs.Prelude.{◌≡◌, ℕ, ◌+◌, true, false, if◌then◌else◌, List, [], ◌∷◌, ◌++◌, map, Option, Some, None}
 use Rattle.std.specs.List.{flat_map}
-use Rattle.std.proofs.Common.{arith, sym, ◌∙◌, ap, subst, ⊎_elim, append_assoc}
+use Rattle.std.proofs.Common.{arith, sym, ◌∙◌, ap, subst, ⊎_elim}
 use Rattle.std.proofs.lemmas.Bool.{cases_Bool}
-use Rattle.net_theory.specs.Document.{Name, is_same, has, are_distinct, LatchLine, Document, latch_input, table_inputs, table_output, sink_names, driven_names, used_names}
+use Rattle.net_theory.specs.Document.{Name, is_same, has, are_distinct, LatchLine, Document, latch_input, table_inputs, sink_names, driven_names, used_names}
 use Rattle.net_theory.specs.WellFormed.{IsWellFormed}
 use Rattle.net_document.specs.Listed.{Listed, IsWellListed, AreControlsFree, times}
 use Rattle.net_document.specs.TimesLaws.{times-append, times_missing, has_times, distinct_times}

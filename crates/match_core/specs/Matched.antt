@@ -1,7 +1,7 @@
 -- Netlists that correspond by names.
 use Rattle.std.specs.Prelude.{◌≡◌, ℕ, if◌then◌else◌, Bool, true, List, [], ◌∷◌, map, slice_get, Option, Some, None}
 use Rattle.std.specs.List.{filter_map}
-use Rattle.net_theory.specs.Document.{Name, is_same, has, Latch, LatchLine, Document, latches_of, latch_output}
+use Rattle.net_theory.specs.Document.{Name, is_same, has, LatchLine, Document, latches_of, latch_output}
 use Rattle.net_theory.specs.Behaviour.{IsValuationOf, HasOneValuation}
 
 -- ---- names in any order

@@ -1,15 +1,15 @@
 -- A netlist in the order of another is well formed, if neither lacks a name of the other.
-use Rattle.std.specs.Prelude.{◌≡◌, ℕ, zero, suc, ◌+◌, Bool, true, false, ◌||◌, if◌then◌else◌, List, [], ◌∷◌, ◌++◌, length, map, All, slice_get, Option, Some, None, refl, ◌↔◌}
+use Rattle.std.specs.Prelude.{◌≡◌, ℕ, suc, ◌+◌, Bool, true, false, ◌||◌, if◌then◌else◌, List, [], ◌∷◌, ◌++◌, map, All, slice_get, Option, Some, None, refl, ◌↔◌}
 use Rattle.std.specs.List.{filter_map, cons_option, flat_map}
-use Rattle.std.proofs.Common.{arith, sym, ◌∙◌, ap, subst, ⊎_elim, inl, inr}
-use Rattle.std.proofs.lemmas.Bool.{cond-true, cond-false, cases_Bool, both_ways, false_from_ne_true}
-use Rattle.std.proofs.lemmas.List.Elements.{All-cons, All-head, All-tail}
+use Rattle.std.proofs.Common.{arith, sym, ◌∙◌, ap, subst, ⊎_elim}
+use Rattle.std.proofs.lemmas.Bool.{cond-true, cond-false, cases_Bool, both_ways}
+use Rattle.std.proofs.lemmas.List.Elements.{All-cons}
 use Rattle.std.proofs.lemmas.Grind.{common_steps}
-use Rattle.net_theory.specs.Document.{Name, is_same, has, are_distinct, Latch, LatchLine, Table, Document, latch_of, latches_of, latch_output, latch_input, table_output, table_inputs, source_names, sink_names, driven_names, used_names}
+use Rattle.net_theory.specs.Document.{Name, is_same, has, are_distinct, Latch, LatchLine, Document, latch_of, latch_output, latch_input, table_output, table_inputs, source_names, sink_names, driven_names, used_names}
 use Rattle.net_theory.specs.NameLaws.{same_name, name_same, has_first, has_later, has_cases, has_none, has_append, has_left, has_right, has_either, has_all, all_has, has_map_at, has_map_index, all_at, distinct_left, distinct_right, distinct_apart, append_distinct}
 use Rattle.net_theory.specs.Naming.{each_once}
 use Rattle.net_theory.specs.Cost.{cost}
-use Rattle.net_theory.specs.Dependence.{ReadsTable, DependsOn, at_once, by_way_of}
+use Rattle.net_theory.specs.Dependence.{DependsOn, at_once, by_way_of}
 use Rattle.net_theory.specs.WellFormed.{IsLatchLine, IsFreeOf, IsWellFormed}
 use Rattle.net_document.specs.Refusals.{missing}
 use Rattle.net_document.specs.OnceLaws.{has_all_once}
@@ -17,7 +17,7 @@ use Rattle.net_document.specs.TimesLaws.{missing_driven}
 use Rattle.match_core.specs.declared.lacking.NameKind.{NameKind}
 use Rattle.match_core.specs.declared.lacking.NameKind.TheVariants as kinds
 use Rattle.match_core.specs.declared.lacking.Lack.{Lack}
-use Rattle.match_core.specs.Matched.{HaveSameNames, latch_names, ShareNames, line_named, ordered, matched}
+use Rattle.match_core.specs.Matched.{HaveSameNames, latch_names, ShareNames, line_named, matched}
 use Rattle.match_core.specs.Lacks.{lacks, or_else, lack_among, lack_of}
 
 -- ---- names that are missing

@@ -1,5 +1,5 @@
 //! The first name that one of two netlists lacks.
-ghost use Rattle.std.specs.Prelude.{◌≡◌, [], ◌++◌, map, OnOk, IfOk};
+ghost use Rattle.std.specs.Prelude.{◌≡◌, map, IfOk};
 ghost use Rattle.net_theory.specs.Document.{latch_output};
 ghost use Rattle.net_document.specs.Refusals.{missing};
 ghost use Rattle.match_core.specs.Lacks as spec;
