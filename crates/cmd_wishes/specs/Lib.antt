@@ -1,2 +1,3 @@
+pub mod Replies
 pub mod WishLaws
 pub mod WishReport

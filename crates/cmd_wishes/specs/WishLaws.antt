@@ -1,6 +1,6 @@
 -- The task of `improve` by wishes is well formed.
 use Rattle.std.specs.Prelude.{◌≡◌, ℕ, ◌≤◌, ◌⊎◌, List, length, Bool, true, false}
-use Rattle.std.proofs.Common.{sym, ◌∙◌, ap, refl, inl}
+use Rattle.std.proofs.Common.{sym, ◌∙◌, ap, refl, inl, inr}
 use Rattle.net_theory.specs.Limits.{most_of_netlist}
 use Rattle.net_document.specs.Format.{IsNetlist}
 use Rattle.net_document.specs.FormatLaws.{fault_one, fault_never}
@@ -14,14 +14,19 @@ use Rattle.wish_names.specs.declared.wishes.CoversAsked.{CoversAsked}
 use Rattle.wish_names.specs.declared.wishes.CoversAsked.TheVariants.{Rows, Least}
 use Rattle.equiv_run.specs.Two.{is_bare}
 use Rattle.improve_wishes.specs.Covers.{blif_in}
-use Rattle.improve_wishes.specs.Wished.{IsWished}
 use Rattle.frame_core.specs.Reported.{memory_refusal}
-use Rattle.frame_core.specs.Task.{IsRefusalStatus, IsTask}
+use Rattle.frame_core.specs.Task.{IsAnswerStatus, IsRefusalStatus, IsTask}
 use Rattle.frame_core.specs.TaskLaws.{at_once_task}
 use Rattle.cmd_lines.specs.NetLineLaws.{status_kind}
-use Rattle.cmd_improve.specs.ImproveReport.{Improvement, improve_reply, improve_refusal}
+use Rattle.cmd_improve.specs.ImproveReport.{improve_refusal}
 use Rattle.cmd_improve.specs.NamedReport.{NamedFault, Empty, Faulty, empty_refusal, named_refusal}
-use Rattle.cmd_wishes.specs.WishReport.{plain_text, wished_format, IsWishAnswer, HasWishFault, wished_task}
+use Rattle.cmd_wishes.specs.WishReport.{WishAnswer, Improved, CannotExpress, TooLarge, wish_reply, wished_format}
+use Rattle.cmd_wishes.specs.WishReport.{IsAnswer, IsWishAnswer, HasWishFault, wished_task}
+
+answer_status : (answer : WishAnswer) → IsAnswerStatus (wish_reply answer).status
+answer_status (Improved i) = inl refl
+answer_status (CannotExpress name) = inr (inr refl)
+answer_status TooLarge = inr (inr refl)
 
 statuses : (format : NetFormat) (bytes : List ℕ) (fault : NamedFault) → HasWishFault format bytes fault →
     IsRefusalStatus (named_refusal fault).status ⊎ (named_refusal fault ≡ memory_refusal)
@@ -32,24 +37,33 @@ statuses format bytes (Faulty e) meets = inl (status_kind e meets.fault.1)
 both : {A : Type 0} (b : Bool) → b ≡ true → b ≡ false → A
 both b is isnt = let e : true ≡ false = sym is ∙ isnt in cc
 
--- BLIF is read in the same way, whichever covers are written
-blif_netlist : (covers : CoversAsked) (settings : ImproveSettings) (w : Wishes) (bytes text report : List ℕ) →
-    IsWished (blif_in covers) settings w bytes text report → IsNetlist (format_of Blif) bytes
-blif_netlist Rows settings w bytes text report is = record { listed = is.read; said = is.said; well = is.well }
-blif_netlist Least settings w bytes text report is = record { listed = is.read; said = is.said; well = is.well }
+-- a netlist of the format that is written; BLIF is read in the same way, whichever covers are written
+blif_netlist : (covers : CoversAsked) (bytes : List ℕ) → IsNetlist (blif_in covers) bytes →
+    IsNetlist (format_of Blif) bytes
+blif_netlist Rows bytes is = is
+blif_netlist Least bytes is = record { listed = is.listed; said = is.said; well = is.well }
 
-netlist_of : (format : NetFormat) (settings : ImproveSettings) (w : Wishes) (bytes text report : List ℕ) →
-    IsWished (wished_format format w) settings w bytes text report → IsNetlist (format_of format) bytes
-netlist_of Blif settings w bytes text report is = blif_netlist w.covers settings w bytes text report is
-netlist_of Bench settings w bytes text report is = record { listed = is.read; said = is.said; well = is.well }
-netlist_of Aiger settings w bytes text report is = record { listed = is.read; said = is.said; well = is.well }
+read_netlist : (format : NetFormat) (w : Wishes) (bytes : List ℕ) → IsNetlist (wished_format format w) bytes →
+    IsNetlist (format_of format) bytes
+read_netlist Blif w bytes is = blif_netlist w.covers bytes is
+read_netlist Bench w bytes is = is
+read_netlist Aiger w bytes is = is
 
-apart : (format : NetFormat) (settings : ImproveSettings) (w : Wishes) (bytes : List ℕ) (i : Improvement)
-    (fault : NamedFault) → IsWishAnswer format settings w bytes i → HasWishFault format bytes fault → ⊥
-apart format settings w bytes i Empty is meets = both (is_bare bytes) meets.bare is.said
-apart format settings w bytes i (Faulty e) is meets =
+written_netlist : (format : NetFormat) (settings : ImproveSettings) (w : Wishes) (bytes : List ℕ)
+    (answer : WishAnswer) → IsAnswer format settings w bytes answer → IsNetlist (wished_format format w) bytes
+written_netlist format settings w bytes (Improved i) is =
+    record { listed = is.0.read; said = is.0.said; well = is.0.well }
+written_netlist format settings w bytes (CannotExpress name) is =
+    record { listed = is.of_text.listed; said = is.of_text.said; well = is.of_text.well }
+written_netlist format settings w bytes TooLarge is =
+    record { listed = is.of_text.listed; said = is.of_text.said; well = is.of_text.well }
+
+apart : (format : NetFormat) (settings : ImproveSettings) (w : Wishes) (bytes : List ℕ) (answer : WishAnswer)
+    (fault : NamedFault) → IsWishAnswer format settings w bytes answer → HasWishFault format bytes fault → ⊥
+apart format settings w bytes answer Empty is meets = both (is_bare bytes) meets.bare is.said
+apart format settings w bytes answer (Faulty e) is meets =
     fault_never (format_of format) bytes e (lists_well format)
-    (netlist_of format settings w bytes (plain_text format i.text) i.report is.wished) meets.fault
+    (read_netlist format w bytes (written_netlist format settings w bytes answer is.is)) meets.fault
 
 one : (format : NetFormat) (bytes : List ℕ) (a b : NamedFault) → HasWishFault format bytes a →
     HasWishFault format bytes b → named_refusal a ≡ named_refusal b
@@ -63,12 +77,14 @@ few : (format : NetFormat) (bytes : List ℕ) (fault : NamedFault) → HasWishFa
 few format bytes Empty meets = meets.within
 few format bytes (Faulty e) meets = meets.within
 
-pub wished_is_task : (format : NetFormat) (settings : ImproveSettings) (w : Wishes) → IsTask (wished_task format settings w)
+pub wished_is_task : (format : NetFormat) (settings : ImproveSettings) (w : Wishes) →
+    IsTask (wished_task format settings w)
 wished_is_task format settings w =
-    at_once_task most_of_netlist Improvement (IsWishAnswer format settings w) improve_reply NamedFault (HasWishFault format) named_refusal
-    (λ i. inl refl)
+    at_once_task most_of_netlist WishAnswer (IsWishAnswer format settings w) wish_reply NamedFault (HasWishFault format)
+    named_refusal
+    (λ answer. answer_status answer)
     (λ bytes fault meets. statuses format bytes fault meets)
-    (λ bytes i fault has meets. apart format settings w bytes i fault has meets)
+    (λ bytes answer fault has meets. apart format settings w bytes answer fault has meets)
     (λ bytes a b x y. one format bytes a b x y)
-    (λ bytes i has. has.within)
+    (λ bytes answer has. has.within)
     (λ bytes fault meets. few format bytes fault meets)

@@ -2,20 +2,21 @@
 ghost use Rattle.std.specs.Prelude.{◌≡◌, ◌≤◌, length, false, IfOk, IfErr};
 ghost use Rattle.net_theory.specs.Limits.{most_of_netlist};
 ghost use Rattle.net_document.specs.Format.{IsRefusedText};
+ghost use Rattle.format_names.specs.declared.formats.NetFormat.TheVariants.{Aiger};
 ghost use Rattle.net_formats.specs.Formats.{format_of};
 ghost use Rattle.settings.specs.Improve.{IsInRange};
 ghost use Rattle.equiv_run.specs.Two.{is_bare as is_bare_of};
 ghost use Rattle.improve_windows.specs.Improving.{FitsFormat};
-ghost use Rattle.improve_wishes.specs.Wished.{IsWished};
+ghost use Rattle.improve_wishes.specs.Texts.{IsWishedText};
 ghost use Rattle.frame_core.specs.Views.{Judges};
-ghost use Rattle.cmd_wishes.specs.WishReport.{wished_format, wished_task};
+ghost use Rattle.cmd_wishes.specs.WishReport.{wished_format, wishes_for, wished_task};
 
-use crate::forms::{formed, wants_binary};
-use cmd_improve::{empty, refusal_of, reply_of};
+use crate::replying::reply_of_text;
+use cmd_improve::{empty, refusal_of};
 use equiv_run::is_bare;
 use format_names::NetFormat;
 use frame_core::{Replier, Reply, Stop};
-use improve_wishes::{ImprovedText, Wishes, wished_aiger, wished_bench, wished_blif};
+use improve_wishes::{WishedText, Wishes, wished_aiger, wished_bench, wished_blif};
 use net_core::NetError;
 use net_theory::MOST_OF_NETLIST;
 use progress::Tell;
@@ -23,6 +24,28 @@ use sat_solve::Solver;
 use settings::ImproveSettings;
 use std::alloc::{AllocError, Global};
 use std::marker::PhantomData;
+
+/// Improves an AIGER file by wishes, without that for a basis.
+fn wished_file<S: Solver, T: Tell>(
+    alloc: Global,
+    bytes: &[u8],
+    settings: ImproveSettings,
+    wishes: Wishes,
+    tell: &T,
+) -> Result<WishedText, NetError>
+    requires length { length bytes.now ≤ most_of_netlist }
+    requires range { IsInRange settings }
+    requires basis { FitsFormat (format_of Aiger) settings }
+    ensures wished { IfOk result (IsWishedText (format_of Aiger) settings (wishes_for Aiger wishes) bytes.now) }
+    ensures refused { IfErr result (IsRefusedText (format_of Aiger) bytes.now) }
+{
+    let asked = Wishes {
+        only: false,
+        ..wishes
+    };
+    let improved = wished_aiger::<S, T>(alloc, bytes, settings, asked, tell)?;
+    Ok(WishedText::Text(improved))
+}
 
 /// Improves a netlist of a format by wishes.
 fn wished_text<S: Solver, T: Tell>(
@@ -32,18 +55,18 @@ fn wished_text<S: Solver, T: Tell>(
     settings: ImproveSettings,
     wishes: Wishes,
     tell: &T,
-) -> Result<ImprovedText, NetError>
+) -> Result<WishedText, NetError>
     requires length { length bytes.now ≤ most_of_netlist }
     requires range { IsInRange settings }
     requires basis { FitsFormat (format_of format) settings }
-    ensures wished { IfOk result (λ i. IsWished (wished_format format wishes) settings wishes bytes.now i.text.items
-        i.report.items) }
+    ensures wished { IfOk result (IsWishedText (wished_format format wishes) settings (wishes_for format wishes)
+        bytes.now) }
     ensures refused { IfErr result (IsRefusedText (format_of format) bytes.now) }
 {
     match format {
         NetFormat::Blif => wished_blif::<S, T>(alloc, bytes, settings, wishes, tell),
         NetFormat::Bench => wished_bench::<S, T>(alloc, bytes, settings, wishes, tell),
-        NetFormat::Aiger => wished_aiger::<S, T>(alloc, bytes, settings, wishes, tell),
+        NetFormat::Aiger => wished_file::<S, T>(alloc, bytes, settings, wishes, tell),
     }
 }
 
@@ -63,10 +86,9 @@ fn reply_to<S: Solver, T: Tell>(
     requires basis { FitsFormat (format_of format) settings }
     ensures { Judges (wished_task format settings wishes) bytes.now result }
 {
-    let binary = wants_binary(format, wishes.form, bytes);
     match wished_text::<S, T>(alloc, format, bytes, settings, wishes, tell) {
-        Ok(improved) => match formed(alloc, binary, improved) {
-            Ok(answer) => Ok(reply_of(answer)),
+        Ok(wished) => match reply_of_text(alloc, format, wishes.form, bytes, wished) {
+            Ok(reply) => Ok(reply),
             Err(AllocError) => Err(Stop::NoMemory),
         },
         Err(NetError::Memory) => Err(Stop::NoMemory),

@@ -1,7 +1,6 @@
 -- What AIGER texts list.
-use Rattle.std.specs.Prelude.{◌≡◌, ℕ, true, false, List, Result, Ok}
+use Rattle.std.specs.Prelude.{◌≡◌, ℕ, List, Result, Ok}
 use Rattle.std.proofs.Common.{ap, sym, ◌∙◌}
-use Rattle.std.proofs.lemmas.Bool.{cond-true, cond-false}
 use Rattle.std.proofs.lemmas.Grind.{common_steps}
 use Rattle.net_core.specs.declared.error.NetError.{NetError}
 use Rattle.net_document.specs.Listed.{Listed}
@@ -10,7 +9,7 @@ use Rattle.aiger_text.specs.Meaning.{listed}
 use Rattle.aiger_text.specs.Reading.{◌>>=◌}
 use Rattle.aiger_text.specs.Statements.{file_of}
 use Rattle.aiger_core.specs.Aiger.{listed_of, aiger_format}
-use Rattle.aiger_binary.specs.Ascii.{is_binary, ascii_of}
+use Rattle.aiger_sections.specs.Plain.{plain_in}
 use Rattle.aiger_forms.specs.Forms.{aiger_forms}
 
 abbrev list_in : Result AigFile NetError → Result Listed NetError
@@ -21,13 +20,8 @@ listed_ok bytes f l e same = ap list_in e ∙ ap Ok (sym same)
 
 pub ruleset listings = (common_steps, listed_ok)
 
-pub binary_listed : (bytes text : List ℕ) (l : Listed) → is_binary bytes ≡ true → text ≡ ascii_of bytes →
-    aiger_format.listed text ≡ Ok l → aiger_forms.listed bytes ≡ Ok l
-binary_listed bytes text l is same said =
-    ap listed_of (cond-true (is_binary bytes) (ascii_of bytes) bytes is ∙ sym same) ∙ said
-
-pub plain_listed : (bytes : List ℕ) (l : Listed) → is_binary bytes ≡ false → aiger_format.listed bytes ≡ Ok l →
+pub forms_listed : (bytes text : List ℕ) (l : Listed) → text ≡ plain_in bytes → aiger_format.listed text ≡ Ok l →
     aiger_forms.listed bytes ≡ Ok l
-plain_listed bytes l other said = ap listed_of (cond-false (is_binary bytes) (ascii_of bytes) bytes other) ∙ said
+forms_listed bytes text l same said = ap listed_of (sym same) ∙ said
 
-pub ruleset binaries = (common_steps, binary_listed, plain_listed)
+pub ruleset forms = (common_steps, forms_listed)

@@ -1,24 +1,23 @@
 //! What a text lists, in any format.
-ghost use Rattle.std.specs.Prelude.{◌≡◌, ◌+◌, ◌*◌, ◌≤◌, ◌<◌, ◌^◌, true, length, Ok, IfOk};
+ghost use Rattle.std.specs.Prelude.{◌≡◌, ◌+◌, ◌*◌, ◌≤◌, ◌<◌, ◌^◌, length, Ok, IfOk};
 ghost use Rattle.net_theory.specs.Cost.{cost};
 ghost use Rattle.net_theory.specs.Limits.{most_of_two};
 ghost use Rattle.net_theory.specs.NetOf.{source_count};
 ghost use Rattle.net_document.specs.Listed.{IsWellListed};
 ghost use Rattle.net_formats.specs.Formats.{format_of};
 ghost use Rattle.aiger_core.specs.Aiger.{aiger_format};
-ghost use Rattle.aiger_binary.specs.Ascii.{is_binary as is_binary_of};
 ghost use Rattle.aiger_forms.specs.Forms.{aiger_forms};
 ghost use Rattle.blif_core.specs.Blif.{blif_format};
 ghost use Rattle.bench_core.specs.Bench.{bench_format};
 
-use aiger_binary::{ascii_text, is_binary};
+use aiger_sections::plain_text;
 use aiger_text::{listed_of, read_ascii};
 use format_names::NetFormat;
 use net_core::NetError;
 use net_document::Listed;
 use std::alloc::Global;
 
-/// The most bytes of an ASCII text of AIGER, as of `aiger_forms`.
+/// The most bytes of a plain text of AIGER, as of `aiger_forms`.
 const MOST_BYTES: usize = 2_147_483_647;
 
 /// What a BLIF text lists.
@@ -45,7 +44,7 @@ fn read_bench(alloc: Global, bytes: &[u8]) -> Result<Listed, NetError>
     Ok(listed)
 }
 
-/// What an AIGER text in the ASCII form lists.
+/// What a plain AIGER text lists.
 #[tactic(auto, using(crate::specs::ListingLaws::listings))]
 fn read_plain(alloc: Global, bytes: &[u8]) -> Result<Listed, NetError>
     requires { length bytes.now < 2 ^ 31 }
@@ -59,35 +58,19 @@ fn read_plain(alloc: Global, bytes: &[u8]) -> Result<Listed, NetError>
     Ok(listed)
 }
 
-/// What an AIGER text in the binary form lists.
-#[tactic(auto, using(crate::specs::ListingLaws::binaries))]
-fn read_binary(alloc: Global, bytes: &[u8]) -> Result<Listed, NetError>
-    requires { is_binary_of bytes.now ≡ true }
+/// What an AIGER text lists, in either form, with bad states and constraints as outputs.
+#[tactic(auto, using(crate::specs::ListingLaws::forms))]
+fn read_aiger(alloc: Global, bytes: &[u8]) -> Result<Listed, NetError>
     ensures said { IfOk result (λ l. aiger_forms.listed bytes.now ≡ Ok l) }
     ensures listed { IfOk result IsWellListed }
     ensures few { IfOk result (λ l. length l.document.tables < 2 ^ 31) }
     ensures small { IfOk result (λ l. 2 * source_count l.document + cost l.document < 2 ^ 31) }
 {
-    let text = ascii_text(alloc, bytes)?;
+    let text = plain_text(alloc, bytes)?;
     if text.len() > MOST_BYTES {
         return Err(NetError::Memory);
     }
     read_plain(alloc, &text)
-}
-
-/// What an AIGER text lists, in either form.
-#[tactic(auto, using(crate::specs::ListingLaws::binaries))]
-fn read_aiger(alloc: Global, bytes: &[u8]) -> Result<Listed, NetError>
-    requires { length bytes.now ≤ most_of_two }
-    ensures said { IfOk result (λ l. aiger_forms.listed bytes.now ≡ Ok l) }
-    ensures listed { IfOk result IsWellListed }
-    ensures few { IfOk result (λ l. length l.document.tables < 2 ^ 31) }
-    ensures small { IfOk result (λ l. 2 * source_count l.document + cost l.document < 2 ^ 31) }
-{
-    if is_binary(bytes) {
-        return read_binary(alloc, bytes);
-    }
-    read_plain(alloc, bytes)
 }
 
 /// What a text lists in a format.

@@ -26,6 +26,22 @@ pub(crate) const NETLISTS: &[Entry] = &[
         says: &[Part::Text(b" gates; at most "), Part::Number(MOST_GATES)],
     },
     Entry {
+        name: b"CannotExpress",
+        place: Place::Nowhere,
+        says: &[Part::Text(
+            b"gates over --basis can't make this gate, as `improve --cap 0` names it; allow more operators",
+        )],
+    },
+    Entry {
+        name: b"TooManyOverBasis",
+        place: Place::Nowhere,
+        says: &[
+            Part::Text(b"over --basis the netlist could have more than "),
+            Part::Number(MOST_GATES),
+            Part::Text(b" gates; allow more operators, or improve it without --only first"),
+        ],
+    },
+    Entry {
         name: b"DrivenTwice",
         place: Place::DrivenAgain,
         says: &[Part::Text(b"a name is driven once: by an input, a table or gate, or a latch")],
@@ -134,7 +150,7 @@ pub(crate) const AIGERS: &[Entry] = &[
         name: b"NotSupported",
         place: Place::Line,
         says: &[Part::Text(
-            b"counts within the limits, no properties, and no name that begins with `&`",
+            b"counts within the limits, no justice or fairness property, and no name that begins with `&`",
         )],
     },
 ];

@@ -1,5 +1,5 @@
-//! The front for `improve` by wishes: `--levels` and `--covers`, and AIGER in the form that the name of `-o` ends
-//! with.
+//! The front for `improve` by wishes: `--only`, `--levels` and `--covers`, and AIGER in the form that the name of `-o`
+//! ends with.
 //!
 //! `wish_line` reads what words wish (`wish_words`), and `serve_wish` runs the command `ImproveWished` of `cmd_wishes`
 //! over the file that they name. What is proved: `wish_line` is `wish_of` of `specs/AskedWishes.antt`, and the run is

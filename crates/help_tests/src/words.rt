@@ -72,6 +72,14 @@ const WRONG: &[(&str, &str)] = &[
         "batsokemi: --levels takes tell, keep, or 0 to 1000000, and not 'x' (batsokemi help improve)\n",
     ),
     (
+        "improve --only maybe a",
+        "batsokemi: --only takes yes, no, and not 'maybe' (batsokemi help improve)\n",
+    ),
+    (
+        "improve --only yes a.aag",
+        "batsokemi: --only goes with BLIF and BENCH: AIGER has AND gates alone (batsokemi help improve)\n",
+    ),
+    (
         "improve --covers few a",
         "batsokemi: --covers takes rows, least, and not 'few' (batsokemi help improve)\n",
     ),

@@ -37,8 +37,8 @@ enum Breach {
     Unnamed(&'static [u8], usize),
     /// This option is named, and fewer than two files are.
     Few(&'static [u8]),
-    /// This option is named, and the netlist isn't in BLIF, since the words break no other rule.
-    BeyondBlif(&'static [u8]),
+    /// This option is named, and the netlist is in a format without it, since the words break no other rule.
+    Beyond(&'static [u8]),
     /// The netlist is in BENCH, and the basis has an operator that BENCH doesn't have.
     BeyondBench,
     /// The netlist may be in AIGER, and the basis has an operator that AIGER can't express.
@@ -112,8 +112,12 @@ const IMPROVE: &[Rule] = &[
         says: b"for AIGER the basis is without 0110 and 1001, as u2 or nand, and not ",
     },
     Rule {
-        breach: Breach::BeyondBlif(b"--covers"),
+        breach: Breach::Beyond(b"--covers"),
         says: b"--covers goes with BLIF alone",
+    },
+    Rule {
+        breach: Breach::Beyond(b"--only"),
+        says: b"--only goes with BLIF and BENCH: AIGER has AND gates alone",
     },
 ];
 
@@ -310,7 +314,7 @@ fn is_broken(breach: Breach, words: &[String]) -> bool {
         Breach::Netlist(name) => is_netlist(name, words),
         Breach::Unnamed(name, place) => is_named(name, words) && !is_plain(place, words),
         Breach::Few(name) => is_named(name, words) && file_at(1, words).is_none(),
-        Breach::BeyondBlif(name) => is_named(name, words),
+        Breach::Beyond(name) => is_named(name, words),
         Breach::BeyondBench => is_bench(words) && is_beyond(BENCH, words),
         Breach::BeyondAiger => may_be_aiger(words) && is_beyond(AND_SET, words),
     }

@@ -273,6 +273,13 @@ const IMPROVE: &[Row] = &[
         says: b"operators that new gates may have; for BENCH a subset of `bench`, for AIGER all but 0110 and 1001",
     },
     Row {
+        name: b"--only",
+        value: b"yes or no",
+        allowed: YES_OR_NO,
+        default: Default::Word(b"no"),
+        says: b"of BLIF and BENCH: all gates are over --basis; first each gate of another operator becomes gates over it",
+    },
+    Row {
         name: b"--levels",
         value: b"LEVELS",
         allowed: Allowed::WordsOr(&[b"tell", b"keep"], MOST_LEVELS),

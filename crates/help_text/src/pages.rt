@@ -235,7 +235,8 @@ is u2: AND gates with complements; it is written in the form that was read, or a
 (ASCII) or .aig (binary). The report goes to standard error:
 
   gates A -> B       two-input gates before and after: a wider .names counts as several, a copy or a
-                     constant as none
+                     constant as none; with --only yes, A counts them once they are over --basis, where
+                     they may be more than were read
   levels D -> E      with --levels: the gates on a longest path, before and after; with keep or N these
                      are all lines, since no window is searched exactly
   undecided G [P] C  the search for the window of C gates with root G (and partner P) spent its budget;

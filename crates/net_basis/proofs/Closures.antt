@@ -80,6 +80,8 @@ function_low j = operator_low (λ a b. apply j.op (apply j.first a b) (apply j.s
 pub record IsGrowing (basis : Basis) (known : ℕ → Bool) (joins : List Join) : Type 0 where
   pub first : known 3 ≡ true
   pub second : known 5 ≡ true
+  pub zero : known 0 ≡ true
+  pub one : known 15 ≡ true
   pub made : (w : ℕ) → known w ≡ true → makes basis operands joins w ≡ true
   pub few : length joins ≤ known_below known 16
 
@@ -87,7 +89,7 @@ pub growing_first : (basis : Basis) (known : ℕ → Bool) (joins : List Join) �
 unfolding makes
 growing_first basis known joins start none =
     subst (λ (js : List Join). IsGrowing basis known js) (sym none) (subst (λ (k : ℕ → Bool). IsGrowing basis k []) (sym start)
-    (record { first = refl; second = refl; made = λ w is. is; few = omega arith }))
+    (record { first = refl; second = refl; zero = refl; one = refl; made = λ w is. is; few = omega arith }))
 
 pub growing_more : (basis : Basis) (known next : ℕ → Bool) (joins new : List Join) (j : Join) → IsGrowing basis known joins →
     IsNewJoin basis known j → next ≡ extended known (function_of j) true → new ≡ joins ++ j ∷ [] → IsGrowing basis next new
@@ -98,6 +100,8 @@ growing_more basis known next joins new j is step next_is new_is =
     (record {
       first = kept_known known (function_of j) 3 is.first;
       second = kept_known known (function_of j) 5 is.second;
+      zero = kept_known known (function_of j) 0 is.zero;
+      one = kept_known known (function_of j) 15 is.one;
       made = λ w known_now. makes_more basis operands joins j w firsts.0 (is.made j.first firsts.1) (is.made j.second ops.1)
           (⊎_elim (λ own. inl own) (λ was. inr (is.made w was)) (known_cases known (function_of j) w known_now));
       few = omega (arith, is.few, length-append joins (j ∷ []), known_more known (function_of j) 16 (function_low j) step.new);
@@ -115,4 +119,12 @@ growing_less basis known next j step next_is =
     )
 
 pub growing_closed : (basis : Basis) (known : ℕ → Bool) (joins : List Join) → IsGrowing basis known joins → is_closed basis known ≡ true → IsClosure basis known joins
-growing_closed basis known joins is closed = record { first = is.first; second = is.second; closed = closed; made = is.made; few = omega (arith, is.few, known_few known 16) }
+growing_closed basis known joins is closed = record {
+  first = is.first;
+  second = is.second;
+  zero = is.zero;
+  one = is.one;
+  closed = closed;
+  made = is.made;
+  few = omega (arith, is.few, known_few known 16);
+}

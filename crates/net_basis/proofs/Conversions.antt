@@ -1,5 +1,5 @@
 -- One more gate of a net over a basis, and the whole net.
-use Rattle.std.specs.Prelude.{◌≡◌, ℕ, suc, ◌+◌, ◌*◌, ◌-◌, ◌≤◌, ◌<◌, ◌^◌, Bool, List, [], ◌∷◌, length, map, slice_get, Some, refl}
+use Rattle.std.specs.Prelude.{◌≡◌, ℕ, suc, ◌+◌, ◌-◌, ◌≤◌, ◌<◌, ◌^◌, zero, Bool, true, false, ◌&&◌, List, [], ◌∷◌, length, map, slice_get, Some, refl}
 use Rattle.std.proofs.Common.{arith, sym, ◌∙◌, ◌≢◌, ap, subst, ⊎_elim}
 use Rattle.std.proofs.lemmas.Bool.{cases_eq}
 use Rattle.std.proofs.lemmas.List.{length-map}
@@ -11,12 +11,15 @@ use Rattle.net_theory.specs.Net.{Net, IsNet, IsSigBelow, IsGateAt, end_of, sig_v
 use Rattle.net_theory.specs.NameLaws.{all_at, at_all, map_at, at_map, index_map}
 use Rattle.net_theory.specs.ValueLaws.{below_later, grown_sig, grown_below, values_after-gate}
 use Rattle.net_theory.specs.Implements.{IsTrivialSink}
-use Rattle.net_theory.specs.Limits.{most_gates}
 use Rattle.net_theory.specs.Moving.{Kept, moved, moved_gate, put_sig, sources_stay, nothing_kept}
 use Rattle.net_theory.specs.MovingLaws.{Moves, IsSourceNode, moves_less, moves_start, moved_below, moved_value, source_stays}
 use Rattle.net_core.specs.Marks.{nodes_of, kept}
-use Rattle.net_basis.specs.OverBasis.{IsNetOver, IsInexpressible, IsInexpressibleAt, most_for_one}
+use Rattle.net_theory.specs.Limits.{most_gates}
+use Rattle.net_basis.specs.LocalWord.{local_word}
+use Rattle.net_basis.specs.OverBasis.{HaveOperatorsIn, IsNetOver, IsInexpressible, IsInexpressibleAt, most_over}
 use Rattle.net_basis.specs.Placing.{IsExpressed, IsNodeBelow, IsConverted, net_with, AreLeft}
+use Rattle.net_basis.specs.Conversion.{are_in, IsPassed}
+use Rattle.net_basis.proofs.Closures.{and_split}
 use Rattle.net_basis.proofs.Placements.{put_same, put_other}
 
 -- ---- one gate
@@ -162,13 +165,62 @@ converted_next basis n node left rest g k m s net split are is e nodes =
     kept_at f gs = record { nodes = f; gates = gs }
 
 -- a gate that can't be expressed
-pub inexpressible_next : (basis : Basis) (n : Net) (node : ℕ) (left rest : List Gate) (g : Gate) → left ≡ g ∷ rest → AreLeft n node left → IsInexpressible basis g.op → IsInexpressibleAt basis n node
+pub inexpressible_next : (basis : Basis) (n : Net) (node : ℕ) (left rest : List Gate) (g : Gate) → left ≡ g ∷ rest → AreLeft n node left → IsInexpressible basis (local_word g) → IsInexpressibleAt basis n node
 inexpressible_next basis n node left rest g split are is = record {
   gate = g;
   from = are.past_sources;
   at = next_at n node left rest g split are;
   inexpressible = is;
 }
+
+-- ---- gates of the basis
+
+-- each gate has an operator of the basis
+pub all_in : (basis : Basis) (gs : List Gate) → HaveOperatorsIn basis gs → are_in basis gs ≡ true
+unfolding are_in
+all_in basis [] all = refl
+all_in basis (g ∷ gs) all =
+    rw (all.each 0 g refl) (all_in basis gs (record { each = λ i h at. all.each (suc i) h at }))
+
+some_gate : (a b : Gate) → Some a ≡ Some b → a ≡ b
+some_gate a b e = cc
+
+one_more_in : (basis : Basis) (g : Gate) (gs : List Gate) → basis g.op ≡ true → HaveOperatorsIn basis gs → (i : ℕ) (h : Gate) →
+    slice_get (g ∷ gs) i ≡ Some h → basis h.op ≡ true
+one_more_in basis g gs own later zero h at = subst (λ (x : Gate). basis x.op ≡ true) (some_gate g h at) own
+one_more_in basis g gs own later (suc i) h at = later.each i h at
+
+pub in_all : (basis : Basis) (gs : List Gate) → are_in basis gs ≡ true → HaveOperatorsIn basis gs
+unfolding are_in
+in_all basis [] is = record { each = λ i h at. absurd cc }
+in_all basis (g ∷ gs) is =
+    let parts = and_split (basis g.op) (are_in basis gs) is in
+    record { each = one_more_in basis g gs parts.0 (in_all basis gs parts.1) }
+
+-- a net whose gates are of the basis is over it
+pub itself_over : (basis : Basis) (n : Net) → IsNet n → are_in basis n.gates ≡ true → length n.gates ≤ most_gates →
+    IsNetOver basis n n
+itself_over basis n net is few = record {
+  behaves = record {
+    net = net;
+    sources = refl;
+    sink_count = refl;
+    values = λ given. refl;
+    still = λ i s at still. at;
+    equal = λ i j d low_i low_j same. same;
+  };
+  operators = in_all basis n.gates is;
+  itself = λ all. refl;
+  fewer = λ some. absurd (some (in_all basis n.gates is));
+  few = few;
+}
+
+-- one more gate of them
+pub in_more : (basis : Basis) (left rest : List Gate) (g : Gate) → left ≡ g ∷ rest → basis g.op ≡ true →
+    are_in basis rest ≡ are_in basis left
+unfolding are_in
+in_more basis left rest g split is =
+    sym (ap (λ (b : Bool). b && are_in basis rest) is) ∙ sym (ap (are_in basis) split)
 
 -- ---- the net
 
@@ -193,11 +245,14 @@ still_moved basis n k Zero is still = refl
 still_moved basis n k One is still = refl
 still_moved basis n k (Node p) is still = is.stay p still
 
-converted_over : (basis : Basis) (n : Net) (k : Kept) → IsNet n → IsConverted basis n (end_of n) k → n.sources + length k.gates < 2 ^ 31 → length k.gates ≤ most_gates →
-    length k.gates ≤ most_for_one * length n.gates → IsNetOver basis n (net_with n k)
-converted_over basis n k net is room few each_few = record {
+differ : (b : Bool) → b ≡ true → b ≡ false → ⊥
+differ b on off = cc
+
+converted_over : (basis : Basis) (n : Net) (k : Kept) → IsNet n → IsPassed basis n k → are_in basis n.gates ≡ false →
+    IsNetOver basis n (net_with n k)
+converted_over basis n k net passed other = let is = passed.converted in record {
   behaves = record {
-    net = converted_net basis n k net is room;
+    net = converted_net basis n k net is passed.room;
     sources = refl;
     sink_count = length-map n.sinks (moved k.nodes);
     values = λ given. map_values (sig_value (values_of given n.sources k.gates)) (sig_value (value n given)) (moved k.nodes) n.sinks (λ i s at.
@@ -206,21 +261,32 @@ converted_over basis n k net is room few each_few = record {
     equal = λ i j d low_i low_j same. index_map (moved k.nodes) n.sinks i d low_i ∙ ap (moved k.nodes) same ∙ sym (index_map (moved k.nodes) n.sinks j d low_j);
   };
   operators = is.operators;
-  few = few;
-  each_few = each_few;
+  itself = λ all. absurd (differ (are_in basis n.gates) (all_in basis n.gates all) other);
+  fewer = λ some. passed.fewer;
+  few = passed.few;
 }
 
 abbrev net_put : ℕ → List Gate → List Sig → Net
 net_put s gs ss = record { sources = s; gates = gs; sinks = ss }
 
 -- The net of the new gates is the net over the basis.
-pub whole_over : (basis : Basis) (n : Net) (sources : ℕ) (nodes : List Sig) (gates : List Gate) (sinks : List Sig) → IsNet n →
-    IsConverted basis n (end_of n) (kept nodes gates) → n.sources + length gates < 2 ^ 31 → length gates ≤ most_gates →
-    length gates ≤ most_for_one * length n.gates →
-    sources ≡ n.sources → sinks ≡ map (moved (nodes_of nodes)) n.sinks →
+pub whole_over : (basis : Basis) (n : Net) (sources : ℕ) (nodes : List Sig) (gates : List Gate) (sinks : List Sig) →
+    IsNet n → IsPassed basis n (kept nodes gates) → are_in basis n.gates ≡ false → sources ≡ n.sources → sinks ≡ map (moved (nodes_of nodes)) n.sinks →
     IsNetOver basis n (record { sources = sources; gates = gates; sinks = sinks })
-whole_over basis n sources nodes gates sinks net is room few each_few same_sources same_sinks =
+whole_over basis n sources nodes gates sinks net passed other same_sources same_sinks =
     let same : record { sources = sources; gates = gates; sinks = sinks } ≡ net_with n (kept nodes gates) =
     ap (λ (s : ℕ). net_put s gates sinks) same_sources
     ∙ ap (λ (ss : List Sig). net_put n.sources gates ss) same_sinks in
-    subst (IsNetOver basis n) (sym same) (converted_over basis n (kept nodes gates) net is room few each_few)
+    subst (IsNetOver basis n) (sym same) (converted_over basis n (kept nodes gates) net passed other)
+
+-- ---- how many gates
+
+pub most_split : (lengths : ℕ → ℕ) (left rest : List Gate) (g : Gate) → left ≡ g ∷ rest →
+    most_over lengths left ≡ lengths (local_word g) + most_over lengths rest
+unfolding most_over
+most_split lengths left rest g split = ap (most_over lengths) split
+
+pub most_none : (lengths : ℕ → ℕ) (left : List Gate) → length left ≡ 0 → most_over lengths left ≡ 0
+unfolding most_over
+most_none lengths [] none = refl
+most_none lengths (g ∷ gs) none = absurd (omega (arith, none))

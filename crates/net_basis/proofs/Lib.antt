@@ -4,4 +4,6 @@ pub mod Counts
 pub mod Closures
 pub mod Recipes
 pub mod Placements
+pub mod Locals
 pub mod Conversions
+pub mod Lengths

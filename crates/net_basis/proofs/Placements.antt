@@ -5,10 +5,9 @@ use Rattle.std.proofs.lemmas.List.{get_or-set_same, get_or-set_other}
 use Rattle.chain_theory.specs.Operator.{apply, Basis}
 use Rattle.chain_theory.specs.Value.{extended}
 use Rattle.chain_theory.specs.ValueLaws.{extended-other}
-use Rattle.op_basis.specs.Closed.{operator_of}
 use Rattle.op_basis.specs.Laws.{operator_values}
 use Rattle.net_theory.specs.declared.data.Sig.{Sig}
-use Rattle.net_theory.specs.declared.data.Sig.TheVariants.{Zero, One, Node}
+use Rattle.net_theory.specs.declared.data.Sig.TheVariants.{Zero, Node}
 use Rattle.net_theory.specs.declared.data.Gate.{Gate}
 use Rattle.net_theory.specs.Net.{IsSigBelow, IsGateAt, AreGates, sig_value, gate_value, values_of}
 use Rattle.net_theory.specs.ValueLaws.{ExtendsGates, grown_none, grown_more, grown_push, grown_sig, grown_below, value-last, at_push}
@@ -17,7 +16,7 @@ use Rattle.net_core.specs.Marks.{nodes_of, kept}
 use Rattle.net_basis.specs.declared.join.Join.{Join}
 use Rattle.net_basis.specs.Joins.{joined, function_of, operands, may_join, makes}
 use Rattle.net_basis.specs.OverBasis.{HaveOperatorsIn}
-use Rattle.net_basis.specs.Placing.{joining_gate, with_join, placed, IsExpressed}
+use Rattle.net_basis.specs.Placing.{joining_gate, with_join, placed, HasOperands, IsExpressed, IsMemberFor}
 use Rattle.net_basis.proofs.Closures.{and_split}
 
 pub put_same : (nodes : ℕ → Sig) (node : ℕ) (s : Sig) (p : ℕ) → p ≡ node → put_sig nodes node s p ≡ s
@@ -38,28 +37,50 @@ nodes_put nodes node s low = λ i p. at p i where
 
 -- ---- values of operators
 
-joined_value : (p u v : ℕ) (x y : Bool) → apply (joined p u v) x y ≡ apply p (apply u x y) (apply v x y)
+pub joined_value : (p u v : ℕ) (x y : Bool) → apply (joined p u v) x y ≡ apply p (apply u x y) (apply v x y)
 unfolding joined
 joined_value p u v x y = operator_values (λ a b. apply p (apply u a b) (apply v a b)) x y
 
-first_value : (x y : Bool) → apply 3 x y ≡ x
+pub first_value : (x y : Bool) → apply 3 x y ≡ x
 first_value true true = refl
 first_value true false = refl
 first_value false true = refl
 first_value false false = refl
 
-second_value : (x y : Bool) → apply 5 x y ≡ y
+pub second_value : (x y : Bool) → apply 5 x y ≡ y
 second_value true true = refl
 second_value true false = refl
 second_value false true = refl
 second_value false false = refl
 
+pub zero_value : (x y : Bool) → apply 0 x y ≡ false
+zero_value true true = refl
+zero_value true false = refl
+zero_value false true = refl
+zero_value false false = refl
+
+pub one_value : (x y : Bool) → apply 15 x y ≡ true
+one_value true true = refl
+one_value true false = refl
+one_value false true = refl
+one_value false false = refl
+
 or_cases : (a b : Bool) → (a || b) ≡ true → (a ≡ true) ⊎ (b ≡ true)
 or_cases true b e = inl refl
 or_cases false b e = inr e
 
-operand_cases : (w : ℕ) → operands w ≡ true → (w ≡ 3) ⊎ (w ≡ 5)
-operand_cases w is = ⊎_elim (λ a. inl (eqb-true w 3 a)) (λ b. inr (eqb-true w 5 b)) (or_cases (w == 3) (w == 5) is)
+-- what holds of the four functions that need no gate
+operand_each : (P : ℕ → Type 0) → P 3 → P 5 → P 0 → P 15 → (w : ℕ) → operands w ≡ true → P w
+operand_each P a b z o w is = ⊎_elim
+    (λ some. ⊎_elim
+    (λ three. ⊎_elim
+    (λ first. subst P (sym (eqb-true w 3 first)) a)
+    (λ second. subst P (sym (eqb-true w 5 second)) b)
+    (or_cases (w == 3) (w == 5) three))
+    (λ zero. subst P (sym (eqb-true w 0 zero)) z)
+    (or_cases (w == 3 || w == 5) (w == 0) some))
+    (λ one. subst P (sym (eqb-true w 15 one)) o)
+    (or_cases (w == 3 || w == 5 || w == 0) (w == 15) is)
 
 -- ---- the operators of more gates
 
@@ -81,25 +102,29 @@ record IsPlacing (basis : Basis) (sources : ℕ) (old : List Gate) (a b : Sig) (
       apply w (sig_value (values_of given sources k.gates) a) (sig_value (values_of given sources k.gates) b)
 
 placing_first : (basis : Basis) (sources : ℕ) (a b : Sig) (k : Kept) → AreGates sources k.gates →
-    IsSigBelow (sources + 1 + length k.gates) a → IsSigBelow (sources + 1 + length k.gates) b → k.nodes 3 ≡ a →
-    k.nodes 5 ≡ b → IsPlacing basis sources k.gates a b operands k
-placing_first basis sources a b k are below_a below_b first second =
+    IsSigBelow (sources + 1 + length k.gates) a → IsSigBelow (sources + 1 + length k.gates) b →
+    HasOperands k.nodes a b → IsPlacing basis sources k.gates a b operands k
+placing_first basis sources a b k are below_a below_b has =
     let end : ℕ = sources + 1 + length k.gates in
     record {
       first = below_a;
       second = below_b;
       grown = grown_none sources k.gates are;
       operators = λ old. old;
-      below = λ w is. ⊎_elim
-          (λ own. subst (IsSigBelow end) (sym (ap k.nodes own ∙ first)) below_a)
-          (λ own. subst (IsSigBelow end) (sym (ap k.nodes own ∙ second)) below_b)
-          (operand_cases w is);
+      below = λ w is. operand_each (λ (p : ℕ). IsSigBelow end (k.nodes p))
+          (subst (IsSigBelow end) (sym has.first) below_a)
+          (subst (IsSigBelow end) (sym has.second) below_b)
+          (subst (IsSigBelow end) (sym has.zero) tt)
+          (subst (IsSigBelow end) (sym has.one) tt)
+          w is;
       value = λ given w is.
           let f : Sig → Bool = sig_value (values_of given sources k.gates) in
-          ⊎_elim
-          (λ own. ap f (ap k.nodes own ∙ first) ∙ sym (first_value (f a) (f b)) ∙ ap (λ (x : ℕ). apply x (f a) (f b)) (sym own))
-          (λ own. ap f (ap k.nodes own ∙ second) ∙ sym (second_value (f a) (f b)) ∙ ap (λ (x : ℕ). apply x (f a) (f b)) (sym own))
-          (operand_cases w is);
+          operand_each (λ (p : ℕ). f (k.nodes p) ≡ apply p (f a) (f b))
+          (ap f has.first ∙ sym (first_value (f a) (f b)))
+          (ap f has.second ∙ sym (second_value (f a) (f b)))
+          (ap f has.zero ∙ sym (zero_value (f a) (f b)))
+          (ap f has.one ∙ sym (one_value (f a) (f b)))
+          w is;
     }
 
 -- one more step
@@ -175,21 +200,21 @@ placing_all basis sources old a b known k (j ∷ js) w small is made =
 -- The gates of steps that make an operator express it.
 pub placed_expresses : (basis : Basis) (sources : ℕ) (a b : Sig) (k : Kept) (js : List Join) (w : ℕ) →
     ((p : ℕ) → basis p ≡ true → p < 16) → AreGates sources k.gates → IsSigBelow (sources + 1 + length k.gates) a →
-    IsSigBelow (sources + 1 + length k.gates) b → k.nodes 3 ≡ a → k.nodes 5 ≡ b → makes basis operands js w ≡ true →
+    IsSigBelow (sources + 1 + length k.gates) b → HasOperands k.nodes a b → makes basis operands js w ≡ true →
     IsExpressed basis sources k.gates (placed sources k js).gates a b w ((placed sources k js).nodes w)
-placed_expresses basis sources a b k js w small are below_a below_b first second made =
-    placing_all basis sources k.gates a b operands k js w small (placing_first basis sources a b k are below_a below_b first second) made
+placed_expresses basis sources a b k js w small are below_a below_b has made =
+    placing_all basis sources k.gates a b operands k js w small (placing_first basis sources a b k are below_a below_b has) made
 
 -- the same for the tables and gates of the code
 pub chain_expresses : (basis : Basis) (sources : ℕ) (a b s : Sig) (table after : List Sig) (old new : List Gate)
     (js : List Join) (w : ℕ) → ((p : ℕ) → basis p ≡ true → p < 16) → AreGates sources old →
-    IsSigBelow (sources + 1 + length old) a → IsSigBelow (sources + 1 + length old) b → nodes_of table 3 ≡ a →
-    nodes_of table 5 ≡ b → makes basis operands js w ≡ true → kept after new ≡ placed sources (kept table old) js →
+    IsSigBelow (sources + 1 + length old) a → IsSigBelow (sources + 1 + length old) b →
+    HasOperands (nodes_of table) a b → makes basis operands js w ≡ true → kept after new ≡ placed sources (kept table old) js →
     s ≡ nodes_of after w → IsExpressed basis sources old new a b w s
-chain_expresses basis sources a b s table after old new js w small are below_a below_b first second made same is =
+chain_expresses basis sources a b s table after old new js w small are below_a below_b has made same is =
     subst (IsExpressed basis sources old new a b w) (sym is)
     (subst (λ (k : Kept). IsExpressed basis sources old k.gates a b w (k.nodes w)) (sym same)
-    (placed_expresses basis sources a b (kept table old) js w small are below_a below_b first second made))
+    (placed_expresses basis sources a b (kept table old) js w small are below_a below_b has made))
 
 -- ---- other gates
 
@@ -234,36 +259,28 @@ chosen_expresses basis sources old new g op s same is = record {
   value = λ given. is.value given ∙ same (values_of given sources new);
 }
 
--- ---- equal operands
-
-pub equal_value : (op : ℕ) (a b : Sig) (f : ℕ → Bool) → a ≡ b → apply (operator_of (λ x y. apply op x x)) (sig_value f a) (sig_value f b) ≡ apply op (sig_value f a) (sig_value f b)
-equal_value op a b f same = operator_values (λ x y. apply op x x) (sig_value f a) (sig_value f b) ∙ ap (λ (s : Sig). apply op (sig_value f a) (sig_value f s)) same
-
--- ---- constant operators
-
-pub zero_value : (x y : Bool) → apply 0 x y ≡ false
-zero_value true true = refl
-zero_value true false = refl
-zero_value false true = refl
-zero_value false false = refl
-
-pub zero_expresses : (basis : Basis) (sources : ℕ) (old : List Gate) (g : Gate) (op : ℕ) → AreGates sources old → op ≡ 0 →
-    ((f : ℕ → Bool) → apply op (sig_value f g.a) (sig_value f g.b) ≡ gate_value f g) → IsExpressed basis sources old old g.a g.b g.op Zero
-zero_expresses basis sources old g op are is same =
-    signal_expresses basis sources old g Zero are tt
-    (λ f. sym (zero_value (sig_value f g.a) (sig_value f g.b)) ∙ ap (λ (x : ℕ). apply x (sig_value f g.a) (sig_value f g.b)) (sym is) ∙ same f)
-
-pub one_value : (x y : Bool) → apply 15 x y ≡ true
-one_value true true = refl
-one_value true false = refl
-one_value false true = refl
-one_value false false = refl
-
-pub one_expresses : (basis : Basis) (sources : ℕ) (old : List Gate) (g : Gate) (op : ℕ) → AreGates sources old → op ≡ 15 →
-    ((f : ℕ → Bool) → apply op (sig_value f g.a) (sig_value f g.b) ≡ gate_value f g) → IsExpressed basis sources old old g.a g.b g.op One
-one_expresses basis sources old g op are is same =
-    signal_expresses basis sources old g One are tt
-    (λ f. sym (one_value (sig_value f g.a) (sig_value f g.b)) ∙ ap (λ (x : ℕ). apply x (sig_value f g.a) (sig_value f g.b)) (sym is) ∙ same f)
+-- a gate of the basis that has the same operands and the same value
+pub member_expresses : (basis : Basis) (sources : ℕ) (old : List Gate) (g h : Gate) → AreGates sources old →
+    IsGateAt (sources + 1 + length old) g → IsMemberFor basis g h →
+    IsExpressed basis sources old (old ++ h ∷ []) g.a g.b g.op (Node (sources + 1 + length old))
+member_expresses basis sources old g h are at is =
+    let end : ℕ = sources + 1 + length old in
+    let new : List Gate = old ++ h ∷ [] in
+    let s : Sig = Node end in
+    let here : IsGateAt end h = record {
+      operator = is.low;
+      first = subst (IsSigBelow end) (sym is.first) at.first;
+      second = subst (IsSigBelow end) (sym is.second) at.second;
+    } in
+    let own : IsExpressed basis sources old new h.a h.b h.op s = kept_expresses basis sources old h are here is.member in
+    let of_g : IsExpressed basis sources old new g.a g.b h.op s =
+    subst (λ (x : Sig). IsExpressed basis sources old new g.a x h.op s) is.second
+    (subst (λ (x : Sig). IsExpressed basis sources old new x h.b h.op s) is.first own) in
+    chosen_expresses basis sources old new g h.op s
+    (λ f. ap (λ (x : Sig). apply h.op (sig_value f x) (sig_value f g.b)) (sym is.first)
+    ∙ ap (λ (x : Sig). apply h.op (sig_value f h.a) (sig_value f x)) (sym is.second)
+    ∙ is.value f)
+    of_g
 
 -- ---- the steps as a list that is read
 

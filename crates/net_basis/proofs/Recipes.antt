@@ -1,17 +1,15 @@
 -- The recipes so far.
-use Rattle.std.proofs.Common.{◌≡◌, ℕ, ◌+◌, ◌<◌, ◌≤◌, Bool, true, false, ◌==◌, ◌||◌, List, [], ◌∷◌, ◌++◌, length, Some, refl, sym, ap, ◌∙◌, subst, arith, ⊎_elim, length-append}
+use Rattle.std.proofs.Common.{◌≡◌, ℕ, ◌+◌, ◌<◌, ◌≤◌, Bool, true, false, List, [], ◌∷◌, ◌++◌, length, Some, refl, sym, ap, ◌∙◌, subst, arith, ⊎_elim, length-append}
 use Rattle.std.specs.List.{slice_get}
 use Rattle.std.specs.Prelude.{slice_index_or}
 use Rattle.std.proofs.lemmas.Option.{slice_get-get_or}
-use Rattle.std.proofs.lemmas.Bool.{ne_eqb}
 use Rattle.chain_theory.specs.Operator.{Basis}
 use Rattle.net_theory.specs.ValueLaws.{at_push}
 use Rattle.net_basis.specs.declared.join.Join.{Join}
 use Rattle.net_basis.specs.declared.recipe.Recipe.{Recipe}
 use Rattle.net_basis.specs.Joins.{operands, makes}
-use Rattle.net_basis.specs.OverBasis.{IsInexpressible, most_for_one}
+use Rattle.net_basis.specs.OverBasis.{most_for_one}
 use Rattle.net_basis.specs.Placing.{IsClosure, IsRecipe, AreRecipes}
-use Rattle.net_basis.specs.Conversion.{is_made_of, has_chain}
 
 pub record AreFirstRecipes (basis : Basis) (bound : ℕ) (rs : List Recipe) : Type 0 where
   pub count : length rs ≡ bound
@@ -39,14 +37,14 @@ pub recipe_none : (basis : Basis) (known : ℕ → Bool) (joins : List Join) (op
 recipe_none basis known joins op r closure lacks none empty = record {
   made = λ made. absurd (not_both r.is_made none made);
   few = omega (arith, ap (length {A = Join}) empty);
-  none = λ off not_zero not_one. record {
+  none = λ off. record {
     known = known;
     first = closure.first;
     second = closure.second;
+    zero = closure.zero;
+    one = closure.one;
     closed = closure.closed;
     lacks = lacks;
-    not_zero = not_zero;
-    not_one = not_one;
   };
 } where
   not_both : (b : Bool) → b ≡ false → b ≡ true → ⊥
@@ -56,35 +54,15 @@ pub recipe_made : (basis : Basis) (op : ℕ) (r : Recipe) → r.is_made ≡ true
 recipe_made basis op r is made few = record {
   made = λ on. made;
   few = few;
-  none = λ off not_zero not_one. absurd (not_both r.is_made off is);
+  none = λ off. absurd (not_both r.is_made off is);
 } where
   not_both : (b : Bool) → b ≡ false → b ≡ true → ⊥
   not_both b off on = cc
 
--- ---- the recipe of an operator
+-- ---- the recipe of a function
 
 -- the recipe that is read at an index
-recipe_at : (basis : Basis) (rs : List Recipe) (at op : ℕ) (r : Recipe) → AreRecipes basis rs → at < 16 → at ≡ op →
+pub recipe_at : (rs : List Recipe) (at op : ℕ) (r : Recipe) → length rs ≡ 16 → at < 16 → at ≡ op →
     r ≡ slice_index_or rs at r → slice_get rs op ≡ Some r
-recipe_at basis rs at op r are low same is =
-    ap (slice_get rs) (sym same) ∙ slice_get-get_or rs at r (omega (arith, low, are.count)) ∙ ap Some (sym is)
-
--- an operator without a recipe, which is none of the constants, can't be expressed
-pub cant_express : (basis : Basis) (rs : List Recipe) (at op gate_op : ℕ) (r : Recipe) → AreRecipes basis rs → at < 16 →
-    at ≡ op → r ≡ slice_index_or rs at r → r.is_made ≡ false → (op ≡ 0 → ⊥) → (op ≡ 15 → ⊥) →
-    (has_chain rs op ≡ false → op ≡ gate_op) → IsInexpressible basis gate_op
-cant_express basis rs at op gate_op r are low same is none not_zero not_one itself =
-    let here : slice_get rs op ≡ Some r = recipe_at basis rs at op r are low same is in
-    let off : has_chain rs op ≡ false =
-    ap (λ (b : Bool). b || (op == 15) || is_made_of (slice_get rs op)) (ne_eqb op 0 not_zero)
-    ∙ ap (λ (b : Bool). b || is_made_of (slice_get rs op)) (ne_eqb op 15 not_one)
-    ∙ ap is_made_of here
-    ∙ none in
-    subst (IsInexpressible basis) (itself off) ((are.each op r here).none none not_zero not_one)
-
-pub recipe_makes : (basis : Basis) (rs : List Recipe) (at op : ℕ) (r : Recipe) → AreRecipes basis rs → at < 16 →
-    at ≡ op → r ≡ slice_index_or rs at r → r.is_made ≡ true → makes basis operands r.joins.items op ≡ true
-recipe_makes basis rs at op r are low same is on = (are.each op r (recipe_at basis rs at op r are low same is)).made on
-
-pub recipe_few : (basis : Basis) (rs : List Recipe) (at : ℕ) (r : Recipe) → AreRecipes basis rs → at < 16 → r ≡ slice_index_or rs at r → length r.joins.items ≤ most_for_one
-recipe_few basis rs at r are low is = (are.each at r (recipe_at basis rs at at r are low refl is)).few
+recipe_at rs at op r count low same is =
+    ap (slice_get rs) (sym same) ∙ slice_get-get_or rs at r (omega (arith, low, count)) ∙ ap Some (sym is)

@@ -57,14 +57,33 @@ member_low set p low is = elim (cases_lt p 16) [
 none_at : (w : ℕ) → members 0 w ≡ false
 none_at w = ap (λ (x : ℕ). x == 1) (bit_at-zero w)
 
-two_by : (x y : Bool) → (if y then true else (if x then true else false)) ≡ (x || y)
-two_by true true = refl
-two_by true false = refl
-two_by false true = refl
-two_by false false = refl
+four_by : (x y z t : Bool) →
+    (if y then true else (if x then true else (if t then true else (if z then true else false)))) ≡ (x || y || z || t)
+four_by true true true true = refl
+four_by true true true false = refl
+four_by true true false true = refl
+four_by true true false false = refl
+four_by true false true true = refl
+four_by true false true false = refl
+four_by true false false true = refl
+four_by true false false false = refl
+four_by false true true true = refl
+four_by false true true false = refl
+four_by false true false true = refl
+four_by false true false false = refl
+four_by false false true true = refl
+four_by false false true false = refl
+four_by false false false true = refl
+four_by false false false false = refl
 
-operands_at : (w : ℕ) → extended (extended (members 0) 3 true) 5 true w ≡ operands w
-operands_at w = ap (λ (b : Bool). if w == 5 then true else (if w == 3 then true else b)) (none_at w) ∙ two_by (w == 3) (w == 5)
+abbrev with_all : (ℕ → Bool) → ℕ → Bool
+with_all none = extended (extended (extended (extended none 0 true) 15 true) 3 true) 5 true
 
-pub both_operands : extended (extended (members 0) 3 true) 5 true ≡ operands
-both_operands = λ i w. operands_at w i
+operands_at : (w : ℕ) → with_all (members 0) w ≡ operands w
+operands_at w =
+    ap (λ (b : Bool). if w == 5 then true else (if w == 3 then true else (if w == 15 then true else (if w == 0 then true
+    else b)))) (none_at w)
+    ∙ four_by (w == 3) (w == 5) (w == 0) (w == 15)
+
+pub all_operands : extended (extended (extended (extended (members 0) 0 true) 15 true) 3 true) 5 true ≡ operands
+all_operands = λ i w. operands_at w i

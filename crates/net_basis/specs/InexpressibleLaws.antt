@@ -37,7 +37,7 @@ both true true e f = refl
 both true false e f = absurd cc
 both false b e f = absurd cc
 
-closed_joined : (basis : Basis) (known : ℕ → Bool) (p u v : ℕ) → is_closed basis known ≡ true → p < 16 → u < 16 → v < 16 →
+pub closed_joined : (basis : Basis) (known : ℕ → Bool) (p u v : ℕ) → is_closed basis known ≡ true → p < 16 → u < 16 → v < 16 →
     basis p ≡ true → known u ≡ true → known v ≡ true → known (joined p u v) ≡ true
 unfolding has_all_joined has_joined_on has_joined
 closed_joined basis known p u v closed low_p low_u low_v member first second =
@@ -146,14 +146,19 @@ met_cell true x e = e
 met_cell false true e = absurd cc
 met_cell false false e = refl
 
+differ : (b : Bool) → b ≡ true → b ≡ false → ⊥
+differ b on off = cc
+
 -- the out of a chain isn't the operator on all rows
 out_not : (basis : Basis) (op : ℕ) (c : Chain) (o : Out) → IsInexpressible basis op → op < 16 → c.n ≡ 2 → IsChain c → IsOver basis c →
     NamesPlace (c.n + length c.steps) o →
     ((t : ℕ) → t < 4 → out_value c t o ≡ apply op (input 2 t 1) (input 2 t 2)) → ⊥
 out_not basis op c outs.Zero cant low two is over names same =
-    cant.not_zero (operator_only (λ a b. false) op low (λ a b. sym (by_rows (λ x y. false) (λ x y. apply op x y) same a b)))
+    let one : 0 ≡ op = sym (operator_only (λ a b. false) op low (λ a b. sym (by_rows (λ x y. false) (λ x y. apply op x y) same a b))) in
+    differ (cant.known op) (ap cant.known (sym one) ∙ cant.zero) cant.lacks
 out_not basis op c outs.One cant low two is over names same =
-    cant.not_one (operator_only (λ a b. true) op low (λ a b. sym (by_rows (λ x y. true) (λ x y. apply op x y) same a b)))
+    let one : 15 ≡ op = sym (operator_only (λ a b. true) op low (λ a b. sym (by_rows (λ x y. true) (λ x y. apply op x y) same a b))) in
+    differ (cant.known op) (ap cant.known (sym one) ∙ cant.one) cant.lacks
 out_not basis op c (outs.Place p) cant low two is over names same =
     let at : IsKnownAt cant.known c p = place_known basis cant.known c cant.first cant.second cant.closed two is over (suc p) p (omega arith) names.0 (omega (arith, names.1, two)) in
     let equal : (a b : Bool) → apply at.function a b ≡ apply op a b =
@@ -161,9 +166,6 @@ out_not basis op c (outs.Place p) cant low two is over names same =
     let one : at.function ≡ op =
     operator_only (λ a b. apply op a b) at.function at.low equal ∙ sym (operator_only (λ a b. apply op a b) op low (λ a b. refl)) in
     differ (cant.known op) (ap cant.known (sym one) ∙ at.is_known) cant.lacks
-  where
-    differ : (b : Bool) → b ≡ true → b ≡ false → ⊥
-    differ b on off = cc
 
 -- No chain of any size over the basis has the table of the operator.
 pub inexpressible_none : (basis : Basis) (op r : ℕ) → op < 16 → IsInexpressible basis op → HasChain (table_of op) basis r → ⊥

@@ -13,9 +13,9 @@ joined p u v = operator_of (λ a b. apply p (apply u a b) (apply v a b))
 abbrev pub function_of : Join → ℕ
 function_of j = joined j.op j.first j.second
 
--- whether a function is a or b, which are 3 and 5
+-- Whether a function needs no gate: the operands a and b, which are 3 and 5, and the constants 0 and 15.
 abbrev pub operands : ℕ → Bool
-operands w = w == 3 || w == 5
+operands w = w == 3 || w == 5 || w == 0 || w == 15
 
 -- a step's operator is in the basis, and the functions that it reads are known
 abbrev pub may_join : Basis → (ℕ → Bool) → Join → Bool

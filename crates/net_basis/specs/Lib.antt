@@ -1,5 +1,7 @@
 pub use Rattle.net_theory.specs.Operator
 pub mod Joins
+pub mod LocalWord
+pub mod DocumentOver
 pub mod OverBasis
 pub mod Placing
 pub mod Conversion

@@ -46,8 +46,7 @@ circuit_over basis c k m is over same =
         latches = refl;
         values = λ given. sym (over.behaves.values (by_node (sources_of c) given));
       };
-      operators = over.operators;
-      each_few = over.each_few;
+      over = over;
     })
 
 -- Where each operator of m is in the basis or is one of n, and n is over the basis, so is m.

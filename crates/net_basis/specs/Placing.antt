@@ -2,9 +2,9 @@
 use Rattle.std.specs.Prelude.{◌≡◌, ℕ, ◌+◌, ◌≤◌, ◌<◌, Bool, true, false, List, [], ◌∷◌, ◌++◌, length, map, slice_get, Some}
 use Rattle.chain_theory.specs.Operator.{apply, Basis}
 use Rattle.net_theory.specs.declared.data.Sig.{Sig}
-use Rattle.net_theory.specs.declared.data.Sig.TheVariants.{Node}
+use Rattle.net_theory.specs.declared.data.Sig.TheVariants.{Zero, One, Node}
 use Rattle.net_theory.specs.declared.data.Gate.{Gate}
-use Rattle.net_theory.specs.Net.{Net, IsSigBelow, sig_value, values_of, value}
+use Rattle.net_theory.specs.Net.{Net, IsSigBelow, IsGateAt, sig_value, gate_value, values_of, value}
 use Rattle.net_theory.specs.ValueLaws.{ExtendsGates}
 use Rattle.net_theory.specs.Expansion.{gate_of}
 use Rattle.net_theory.specs.Moving.{Kept, moved, put_sig}
@@ -16,10 +16,13 @@ use Rattle.net_basis.specs.OverBasis.{HaveOperatorsIn, IsInexpressible, most_for
 
 -- ---- recipes
 
--- The known functions have both operands and are closed under the basis, and the steps make each of them.
+-- The known functions have both operands and the constants and are closed under the basis, and the steps make each of
+-- them.
 pub record IsClosure (basis : Basis) (known : ℕ → Bool) (joins : List Join) : Type 0 where
   pub first : known 3 ≡ true
   pub second : known 5 ≡ true
+  pub zero : known 0 ≡ true
+  pub one : known 15 ≡ true
   pub closed : is_closed basis known ≡ true
   pub made : (w : ℕ) → known w ≡ true → makes basis operands joins w ≡ true
   pub few : length joins ≤ most_for_one
@@ -28,7 +31,7 @@ pub record IsClosure (basis : Basis) (known : ℕ → Bool) (joins : List Join) 
 pub record IsRecipe (basis : Basis) (op : ℕ) (r : Recipe) : Type 0 where
   pub made : r.is_made ≡ true → makes basis operands r.joins.items op ≡ true
   pub few : length r.joins.items ≤ most_for_one
-  pub none : r.is_made ≡ false → (op ≡ 0 → ⊥) → (op ≡ 15 → ⊥) → IsInexpressible basis op
+  pub none : r.is_made ≡ false → IsInexpressible basis op
 
 -- the recipes of the sixteen operators
 pub record AreRecipes (basis : Basis) (rs : List Recipe) : Type 0 where
@@ -36,6 +39,13 @@ pub record AreRecipes (basis : Basis) (rs : List Recipe) : Type 0 where
   pub each : (op : ℕ) (r : Recipe) → slice_get rs op ≡ Some r → IsRecipe basis op r
 
 -- ---- the gates of a recipe
+
+-- the signals of the functions that need no gate
+pub record HasOperands (at : ℕ → Sig) (a b : Sig) : Type 0 where
+  pub first : at 3 ≡ a
+  pub second : at 5 ≡ b
+  pub zero : at 0 ≡ Zero
+  pub one : at 15 ≡ One
 
 -- the gate of a step, where functions have these signals
 abbrev pub joining_gate : (ℕ → Sig) → Join → Gate
@@ -61,6 +71,19 @@ pub record IsExpressed (basis : Basis) (sources : ℕ) (old new : List Gate) (a 
   pub value : (given : ℕ → Bool) → sig_value (values_of given sources new) s ≡
       apply op (sig_value (values_of given sources new) a) (sig_value (values_of given sources new) b)
 
+-- a signal with the gate's value, which isn't above its operands
+pub record IsSignalOf (g : Gate) (s : Sig) : Type 0 where
+  pub below : (end : ℕ) → IsGateAt end g → IsSigBelow end s
+  pub value : (f : ℕ → Bool) → sig_value f s ≡ gate_value f g
+
+-- a gate of the basis with the same operands and the same value
+pub record IsMemberFor (basis : Basis) (g h : Gate) : Type 0 where
+  pub member : basis h.op ≡ true
+  pub low : h.op < 16
+  pub first : h.a ≡ g.a
+  pub second : h.b ≡ g.b
+  pub value : (f : ℕ → Bool) → gate_value f h ≡ gate_value f g
+
 -- ---- the pass over the gates
 
 -- the nodes below `node`
@@ -82,4 +105,5 @@ net_with n k = record { sources = n.sources; gates = k.gates; sinks = map (moved
 pub record AreLeft (n : Net) (node : ℕ) (left : List Gate) : Type 0 where
   pub all : node + length left ≡ n.sources + 1 + length n.gates
   pub past_sources : n.sources + 1 ≤ node
-  pub each : (i j : ℕ) (g : Gate) → slice_get left i ≡ Some g → n.sources + 1 + j ≡ node + i → slice_get n.gates j ≡ Some g
+  pub each : (i j : ℕ) (g : Gate) → slice_get left i ≡ Some g → n.sources + 1 + j ≡ node + i →
+      slice_get n.gates j ≡ Some g

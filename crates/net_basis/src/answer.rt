@@ -4,11 +4,13 @@ use net_core::{Circuit, Net};
 /// A net over a basis, or why there is none.
 #[derive(Drop)]
 pub enum NetOver {
+    /// The net is over the basis as it is.
+    Itself,
     /// The net over the basis.
     Over(Net),
-    /// The basis can't express the operator of the gate of this node.
+    /// The basis can't express the gate of this node.
     Cannot(u32),
-    /// Over the basis it would have more than 100,000 gates, or 2^31 nodes.
+    /// Over the basis it could have more than 100,000 gates, or 2^31 nodes.
     TooMany,
 }
 
@@ -17,8 +19,8 @@ pub enum NetOver {
 pub enum Converted {
     /// The circuit over the basis.
     Over(Circuit),
-    /// The basis can't express the operator of the gate of this node.
+    /// The basis can't express the gate of this node.
     Cannot(Circuit, u32),
-    /// Over the basis it would have more than 100,000 gates, or 2^31 nodes.
+    /// Over the basis it could have more than 100,000 gates, or 2^31 nodes.
     TooMany(Circuit),
 }

@@ -1,15 +1,17 @@
 //! The pass over the gates of a net. `nodes` maps each old node to its new signal.
-ghost use Rattle.std.specs.Prelude.{◌≡◌, length, IfOk};
+ghost use Rattle.std.specs.Prelude.{◌≡◌, ◌≤◌, false, length, IfOk};
 ghost use Rattle.op_basis.specs.Basis.{members};
 ghost use Rattle.net_theory.specs.Net.{IsGateAt, end_of};
 ghost use Rattle.net_theory.specs.Moving.{sources_stay, moved_gate};
+ghost use Rattle.net_theory.specs.Limits.{most_gates};
 ghost use Rattle.net_core.specs.Marks.{nodes_of, kept};
 ghost use Rattle.net_basis.specs.OverBasis.{IsNetAnswer};
 ghost use Rattle.net_basis.specs.Placing.{AreRecipes};
-ghost use Rattle.net_basis.specs.Conversion.{IsPassed, IsPassAnswer};
+ghost use Rattle.net_basis.specs.Conversion.{are_in as are_in_of, IsPassed, IsPassAnswer};
 
 use crate::answer::NetOver;
 use crate::expressing::{Expressed, express};
+use crate::local::local_word;
 use crate::recipe::{Recipe, recipes};
 use net_core::{Gate, Net, Sig, moved, moved_sinks, start_nodes};
 use op_basis::Basis;
@@ -20,10 +22,25 @@ use std::alloc::{AllocError, Global};
 pub enum Passed {
     /// The gates over the basis.
     All(Vec<Gate>),
-    /// The basis can't express the operator of the gate of this node.
+    /// The basis can't express the gate of this node.
     Cannot(u32),
     /// There would be too many gates.
     TooMany,
+}
+
+/// Whether each gate has an operator of the basis.
+#[tactic(auto, unfolding(crate::specs::Conversion::are_in))]
+fn are_in(basis: Basis, gates: &[Gate]) -> bool
+    ensures { result ≡ are_in_of (members basis) gates.now }
+{
+    let mut left = gates;
+    while let Some((gate, rest)) = left.split_first() {
+        if !basis.contains(gate.op) {
+            return false;
+        }
+        left = rest;
+    }
+    true
 }
 
 /// The gate with its operands mapped.
@@ -57,8 +74,9 @@ fn pass(
     let mut node = sources as usize + 1;
     let mut left = net.gates();
     while let Some((gate, rest)) = left.split_first() {
+        let word = local_word(gate);
         let mapped = moved_operands(nodes, gate);
-        match express(basis, recipes, sources, &mut gates, &mapped)? {
+        match express(basis, recipes, sources, &mut gates, word, &mapped)? {
             Expressed::By(sig) => nodes[node] = sig,
             Expressed::Cannot => return Ok(Passed::Cannot(node as u32)),
             Expressed::TooMany => return Ok(Passed::TooMany),
@@ -79,6 +97,7 @@ fn net_of_gates(
 ) -> Result<NetOver, AllocError>
     requires passed { IsPassed (members basis) net.now (kept nodes.now gates.items) }
     requires count { length nodes.now ≡ end_of net.now }
+    requires other { are_in_of (members basis) net.now.gates ≡ false }
     ensures { IfOk result (IsNetAnswer (members basis) net.now) }
 {
     let sinks = moved_sinks(alloc, nodes, net.sinks())?;
@@ -96,6 +115,7 @@ fn net_in(
     requires recipes { AreRecipes (members basis) recipes.now }
     requires start { nodes_of nodes.old ≡ sources_stay net.now.sources }
     requires count { length nodes.old ≡ end_of net.now }
+    requires other { are_in_of (members basis) net.now.gates ≡ false }
     ensures { IfOk result (IsNetAnswer (members basis) net.now) }
 {
     match pass(alloc, net, basis, recipes, nodes)? {
@@ -105,10 +125,15 @@ fn net_in(
     }
 }
 
-/// A net over a basis: each gate of another operator is a chain of gates over the basis, for its operands.
+/// A net over a basis: itself, if each gate has an operator of the basis; or else each gate of another operator is a
+/// chain of gates over the basis, for its operands.
 pub fn net_over(alloc: Global, net: &Net, basis: Basis) -> Result<NetOver, AllocError>
+    requires { length net.now.gates ≤ most_gates }
     ensures { IfOk result (IsNetAnswer (members basis) net.now) }
 {
+    if are_in(basis, net.gates()) {
+        return Ok(NetOver::Itself);
+    }
     let all = recipes(alloc, basis)?;
     let sources = net.sources();
     let count = sources + 1 + net.gates().len() as u32;

@@ -40,14 +40,24 @@ pub fn with_function(known: Basis, function: Op) -> Basis
     Basis::new(known.get() | 1 << function.get())
 }
 
-/// The set of the functions a and b, which are 3 and 5.
+/// The set of the constants, which are 0 and 15.
+fn constants() -> Basis
+    ensures { members result ≡ extended (extended (members 0) 0 true) 15 true }
+{
+    let none = Basis::new(0);
+    let zero = Op::new(0);
+    let one = Op::new(15);
+    with_function(with_function(none, zero), one)
+}
+
+/// The set of the functions that need no gate: a and b, which are 3 and 5, and the constants.
 pub fn operands() -> Basis
     ensures { members result ≡ operands_of }
 {
-    let none = Basis::new(0);
+    let bits = constants();
     let first = Op::new(3);
     let second = Op::new(5);
-    with_function(with_function(none, first), second)
+    with_function(with_function(bits, first), second)
 }
 
 /// Whether the step's operator is in the basis, and the functions that it reads are known.

@@ -1,14 +1,13 @@
 //! A least chain for an operator. The sets of functions that some steps make are listed in the order of their numbers
 //! of steps, each set once, so that the first one with the operator has a least chain. That the chain is least isn't
-//! proved; whether it is a chain for the operator, the caller tests. Least chains for operators have at most seven
-//! steps over any basis, and a few hundred sets come before.
+//! proved; whether it is a chain for the operator, the caller tests.
 ghost use Rattle.std.specs.Prelude.{◌≤◌, IfOk, vec_len};
 
 use crate::join::{Join, function_of, operands, with_function};
 use op_basis::{Basis, Op};
 use std::alloc::{AllocError, Global};
 
-/// The most steps of a least chain for an operator: AND and NOT need seven for XOR. One more ends a search.
+/// More steps than a least chain for an operator has over any basis.
 const MOST_STEPS: u32 = 8;
 
 /// The number of all sets of functions.
@@ -27,6 +26,35 @@ struct Reached {
 struct Listing {
     all: Vec<Reached>,
     is_listed: Vec<bool>,
+}
+
+/// Whether the operator's value depends on its first operand.
+fn reads_first(op: Op) -> bool {
+    op.apply(false, false) != op.apply(true, false) || op.apply(false, true) != op.apply(true, true)
+}
+
+/// Whether it depends on its second operand.
+fn reads_second(op: Op) -> bool {
+    op.apply(false, false) != op.apply(false, true) || op.apply(true, false) != op.apply(true, true)
+}
+
+/// The step with its operands, where one that doesn't matter is as the other: it reads no gate that isn't needed.
+fn needed(op: Op, first: Op, second: Op) -> Join {
+    if !reads_second(op) {
+        return Join {
+            op,
+            first,
+            second: first,
+        };
+    }
+    if !reads_first(op) {
+        return Join {
+            op,
+            first: second,
+            second,
+        };
+    }
+    Join { op, first, second }
 }
 
 /// Lists the set that a step makes of the set `before`, unless it is listed.
@@ -61,7 +89,7 @@ fn list_seconds(
     for word in 0..16u8 {
         let second = Op::new(word);
         if known.contains(second) {
-            let join = Join { op, first, second };
+            let join = needed(op, first, second);
             list_one(listing, known, &join, before)?;
         }
     }
@@ -100,7 +128,7 @@ fn list_next(
     Ok(())
 }
 
-/// The listing with the set of the operands alone.
+/// The listing with the set of what needs no gate alone.
 fn start(alloc: Global) -> Result<Listing, AllocError> {
     let known = operands();
     let operand = Op::new(3);

@@ -1,13 +1,14 @@
 //! Circuits over a basis and nothing else: a NAND netlist, or an AIG whose complements are free (`u2`).
 //!
-//! Each gate whose operator isn't in the basis is replaced by a least chain of gates over the basis. The sixteen
-//! operators have at most one chain each, which is found once (`least`) and tested by the functions of its steps
-//! (`join`). Where there is none, the closure of both operands under the basis (`closure`) is a set of functions
-//! without the operator, so the basis can't express it. A constant is a signal and needs no gate, nor does a copy.
-//! Where the operands of a gate are equal, the chain is that of a copy or a complement.
+//! A net whose gates have operators of the basis stays as it is. Otherwise each gate of another operator is replaced by
+//! a least chain of gates over the basis for its function of its different signals (`local`). The sixteen functions have
+//! at most one chain each, which is found once (`least`) and tested by the functions of its steps (`join`). Where there
+//! is none, the closure of both operands and the constants under the basis (`closure`) is a set of functions without
+//! it, so the basis can't express it. A constant is a signal and needs no gate, nor does a copy.
 //!
 //! The main theorem is the contract of `over_basis`: the circuit has the same names and the same behaviour, and every
-//! gate has an operator of the basis. That the chains are least isn't proved.
+//! gate has an operator of the basis. That the chains are least isn't proved. `specs/DocumentOver` says when a document
+//! is over a basis.
 //!
 //! ```text
 //! match over_basis(alloc, circuit, basis)? {
@@ -26,6 +27,7 @@ mod expressing;
 mod join;
 pub mod laws;
 mod least;
+mod local;
 mod placing;
 mod recipe;
 mod table;

@@ -36,6 +36,8 @@ pub enum CoversAsked {
 /// What is wished of the netlist that is written.
 #[derive(Clone, Copy, PartialEq, Eq)]
 pub struct Wishes {
+    /// The basis's operators and no others.
+    pub only: bool,
     pub levels: LevelsAsked,
     pub form: FormAsked,
     pub covers: CoversAsked,

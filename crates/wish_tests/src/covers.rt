@@ -2,7 +2,7 @@
 ghost use Rattle.settings.specs.Improve.{IsInRange};
 
 use cdcl_core::Cdcl;
-use improve_wishes::{CoversAsked, FormAsked, LevelsAsked, Wishes, wished_blif};
+use improve_wishes::{CoversAsked, FormAsked, LevelsAsked, WishedText, Wishes, wished_blif};
 use progress::Silent;
 use settings::ImproveSettings;
 use std::alloc::Global;
@@ -20,12 +20,14 @@ fn text_of(alloc: Global, covers: CoversAsked, text: &[u8]) -> Option<Vec<u8>> {
         return None;
     }
     let wishes = Wishes {
+        only: false,
         levels: LevelsAsked::Untold,
         form: FormAsked::Given,
         covers,
     };
     match wished_blif::<Cdcl, Silent>(alloc, text, defaults(), wishes, &Silent) {
-        Ok(improved) => Some(improved.text),
+        Ok(WishedText::Text(improved)) => Some(improved.text),
+        Ok(_) => None,
         Err(_) => None,
     }
 }

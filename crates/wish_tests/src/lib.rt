@@ -1,6 +1,9 @@
-//! Tests of netlists that are improved by wishes: the levels before and after, and the covers.
+//! Tests of netlists that are improved by wishes: the levels before and after, the covers, and
+//! netlists over a basis.
 #![tactic(auto)]
 
+#[cfg(test)]
+mod bases;
 #[cfg(test)]
 mod covers;
 #[cfg(test)]

@@ -1,7 +1,7 @@
 -- What the words of `improve` wish of the netlist that it writes, and the words without these wishes.
 use Rattle.std.specs.Prelude.{ℕ, List, [], ◌∷◌, ◌++◌, Bool, true, false, not, Option, Some, None, codes, if◌then◌else◌}
 use Rattle.text_core.specs.Numbers.{number_up_to}
-use Rattle.command_line.specs.Options.{is_word}
+use Rattle.command_line.specs.Options.{is_word, flag_in}
 use Rattle.command_line.specs.CommandLine.{word_after, is_named}
 use Rattle.file_words.specs.Formats.{ends_with}
 use Rattle.file_words.specs.Sorting.{Line}
@@ -19,6 +19,11 @@ abbrev pub most_levels : ℕ
 most_levels = 1000000
 
 -- ---- the values of options; None: the word is no value
+
+-- `--only yes` or `no`, by default `no`; not for AIGER, which has gates of its own
+abbrev pub only_in : Bool → Option (List ℕ) → Option Bool
+only_in aiger None = Some false
+only_in aiger (Some word) = if aiger then None else flag_in word
 
 abbrev pub most_in : Option ℕ → Option LevelsAsked
 most_in None = None
@@ -63,19 +68,22 @@ is_asked form = true
 
 -- a wish is named
 abbrev pub names_wish : List (List ℕ) → FormAsked → Bool
-names_wish options form = if is_named (codes "--levels") options then true
-    else (if is_named (codes "--covers") options then true else is_asked form)
+names_wish options form = if is_named (codes "--only") options then true
+    else (if is_named (codes "--levels") options then true
+    else (if is_named (codes "--covers") options then true else is_asked form))
 
-abbrev pub wishes_from : Option LevelsAsked → Option CoversAsked → FormAsked → Option Wishes
-wishes_from (Some levels) (Some covers) form = Some (record { levels = levels; form = form; covers = covers })
-wishes_from (Some levels) None form = None
-wishes_from None covers form = None
+abbrev pub wishes_from : Option Bool → Option LevelsAsked → Option CoversAsked → FormAsked → Option Wishes
+wishes_from (Some only) (Some levels) (Some covers) form =
+    Some (record { only = only; levels = levels; form = form; covers = covers })
+wishes_from (Some only) (Some levels) None form = None
+wishes_from (Some only) None covers form = None
+wishes_from None levels covers form = None
 
 -- the wishes of options; None: there are none, or a value is none
-abbrev pub wishes_in : List (List ℕ) → Bool → FormAsked → Option Wishes
-wishes_in options blif form =
+abbrev pub wishes_in : List (List ℕ) → Bool → Bool → FormAsked → Option Wishes
+wishes_in options aiger blif form =
     if names_wish options form then
-    wishes_from (levels_in (word_after (codes "--levels") options))
+    wishes_from (only_in aiger (word_after (codes "--only") options)) (levels_in (word_after (codes "--levels") options))
     (covers_in blif (word_after (codes "--covers") options)) form
     else None
 
@@ -88,7 +96,7 @@ without option (name ∷ []) = name ∷ []
 without option (name ∷ word ∷ words) = if is_word option name then words else name ∷ word ∷ without option words
 
 abbrev pub without_wishes : List (List ℕ) → List (List ℕ)
-without_wishes options = without (codes "--covers") (without (codes "--levels") options)
+without_wishes options = without (codes "--only") (without (codes "--covers") (without (codes "--levels") options))
 
 -- `improve` of AIGER is that of BLIF to `command_line`, over the gates of AIGER.
 abbrev pub plain_options : Bool → List (List ℕ) → List (List ℕ)
@@ -109,7 +117,7 @@ wished_by (Some wishes) aiger words = Some (record { wishes = wishes; aiger = ai
 
 abbrev pub wished_as : Bool → Option (List ℕ) → List ℕ → List (List ℕ) → Option Wished
 wished_as aiger output name options =
-    wished_by (wishes_in options (is_blif aiger (named_format options)) (form_in aiger output)) aiger
+    wished_by (wishes_in options aiger (is_blif aiger (named_format options)) (form_in aiger output)) aiger
     (name ∷ plain_options aiger options)
 
 abbrev pub wished_words : Line → List (List ℕ) → Option Wished

@@ -1,5 +1,6 @@
-//! What the words of `improve` wish of the netlist that it writes: `--levels` for how many levels it may have,
-//! `--covers` for the rows of the tables of BLIF, and the end of the name of `-o` for the form of AIGER.
+//! What the words of `improve` wish of the netlist that it writes: `--only` for the operators of the basis and no
+//! others, `--levels` for how many levels it may have, `--covers` for the rows of the tables of BLIF, and the end of
+//! the name of `-o` for the form of AIGER.
 //!
 //! `read_wishes` says it of a line (`specs/WishWords.antt`), with the words that mean the same to a program that knows
 //! no wishes.

@@ -35,7 +35,7 @@ fn wished_as(
         spec.wished_as aiger (option_map string_bytes output.now) name.now (map string_bytes options.now)) }
 {
     let blif = is_blif(aiger, options);
-    let Some(wishes) = wishes_in(options, blif, form_in(aiger, output)) else {
+    let Some(wishes) = wishes_in(options, aiger, blif, form_in(aiger, output)) else {
         return Ok(None);
     };
     let words = plain_words(alloc, name, aiger, options)?;

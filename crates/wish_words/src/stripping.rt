@@ -39,8 +39,10 @@ fn without_wishes(alloc: Global, options: &[String]) -> Result<Vec<String>, Allo
 {
     let mut bare = Vec::new(alloc);
     push_without(alloc, &mut bare, b"--levels", options)?;
+    let mut plain = Vec::new(alloc);
+    push_without(alloc, &mut plain, b"--covers", &bare)?;
     let mut words = Vec::new(alloc);
-    push_without(alloc, &mut words, b"--covers", &bare)?;
+    push_without(alloc, &mut words, b"--only", &plain)?;
     Ok(words)
 }
 

@@ -3,6 +3,7 @@ ghost use Rattle.std.specs.Prelude.{◌≡◌, map, codes, Some};
 ghost use Rattle.std.specs.Option.{option_map};
 ghost use Rattle.std.specs.String.{string_bytes};
 ghost use Rattle.command_line.specs.CommandLine.{word_after as word_after_of, is_named as is_named_of};
+ghost use Rattle.command_line.specs.Options.{flag_in as flag_in_of};
 ghost use Rattle.format_words.specs.FormatsAsked.{named_format};
 ghost use Rattle.wish_words.specs.WishWords as spec;
 
@@ -13,6 +14,34 @@ use wish_names::{CoversAsked, FormAsked, LevelsAsked, Wishes};
 
 /// The greatest number of levels that can be named.
 const MOST_LEVELS: u32 = 1_000_000;
+
+/// `yes` or `no`.
+fn flag_in(word: &[u8]) -> Option<bool>
+    ensures { result ≡ flag_in_of word.now }
+{
+    if is_word(word, b"yes") {
+        return Some(true);
+    }
+    if is_word(word, b"no") {
+        return Some(false);
+    }
+    None
+}
+
+/// The value of `--only`, by whether the netlist is in AIGER.
+fn only_in(aiger: bool, options: &[String]) -> Option<bool>
+    ensures { result ≡ spec.only_in aiger (word_after_of (codes "--only") (map string_bytes options.now)) }
+{
+    match word_after(b"--only", options) {
+        None => Some(false),
+        Some(word) => {
+            if aiger {
+                return None;
+            }
+            flag_in(word)
+        }
+    }
+}
 
 /// A number of levels.
 fn most_in(found: Option<u32>) -> Option<LevelsAsked>
@@ -135,6 +164,9 @@ fn is_named(name: &[u8], options: &[String]) -> bool
 fn names_wish(options: &[String], form: FormAsked) -> bool
     ensures { result ≡ spec.names_wish (map string_bytes options.now) form }
 {
+    if is_named(b"--only", options) {
+        return true;
+    }
     if is_named(b"--levels", options) {
         return true;
     }
@@ -146,14 +178,16 @@ fn names_wish(options: &[String], form: FormAsked) -> bool
 
 /// The wishes by the values of the options.
 fn wishes_from(
+    only: Option<bool>,
     levels: Option<LevelsAsked>,
     covers: Option<CoversAsked>,
     form: FormAsked,
 ) -> Option<Wishes>
-    ensures { result ≡ spec.wishes_from levels covers form }
+    ensures { result ≡ spec.wishes_from only levels covers form }
 {
-    match (levels, covers) {
-        (Some(levels), Some(covers)) => Some(Wishes {
+    match (only, levels, covers) {
+        (Some(only), Some(levels), Some(covers)) => Some(Wishes {
+            only,
             levels,
             form,
             covers,
@@ -163,11 +197,21 @@ fn wishes_from(
 }
 
 /// The wishes of options; None if there are none, or a value is none.
-pub(crate) fn wishes_in(options: &[String], blif: bool, form: FormAsked) -> Option<Wishes>
-    ensures { result ≡ spec.wishes_in (map string_bytes options.now) blif form }
+pub(crate) fn wishes_in(
+    options: &[String],
+    aiger: bool,
+    blif: bool,
+    form: FormAsked,
+) -> Option<Wishes>
+    ensures { result ≡ spec.wishes_in (map string_bytes options.now) aiger blif form }
 {
     if !names_wish(options, form) {
         return None;
     }
-    wishes_from(levels_in(options), covers_in(blif, options), form)
+    wishes_from(
+        only_in(aiger, options),
+        levels_in(options),
+        covers_in(blif, options),
+        form,
+    )
 }

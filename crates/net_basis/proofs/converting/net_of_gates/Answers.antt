@@ -8,16 +8,12 @@ use Rattle.net_basis.proofs.converting.net_of_gates.Goals as goal
 pub new-requires : goal.new-requires
 new-requires c =
     let sinks = rw c.sinks.ensures.sinks at c.in_ok-sinks.ensures in
-    let passed = c.requires.passed in
     (whole_over (members c.args.basis) c.args.net.now c.sources.result c.args.nodes.now c.args.gates.items
-    c.in_ok-sinks.sinks.items c.sources.ensures.net passed.converted passed.room passed.few passed.each_few
-    c.sources.ensures.sources sinks).behaves.net
+    c.in_ok-sinks.sinks.items c.sources.ensures.net c.requires.passed c.requires.other c.sources.ensures.sources sinks).behaves.net
 
 pub returns : goal.returns
 returns c =
     let sinks = rw c.sinks.ensures.sinks at c.in_ok-sinks.ensures in
-    let passed = c.requires.passed in
     subst (IsNetOver (members c.args.basis) c.args.net.now) (sym c.new.ensures)
     (whole_over (members c.args.basis) c.args.net.now c.sources.result c.args.nodes.now c.args.gates.items
-    c.in_ok-sinks.sinks.items c.sources.ensures.net passed.converted passed.room passed.few passed.each_few
-    c.sources.ensures.sources sinks)
+    c.in_ok-sinks.sinks.items c.sources.ensures.net c.requires.passed c.requires.other c.sources.ensures.sources sinks)

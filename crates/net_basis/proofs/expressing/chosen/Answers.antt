@@ -1,13 +1,22 @@
-use Rattle.std.proofs.Common.{◌≡◌, ◌∙◌, ℕ, ap, rules}
-use Rattle.chain_theory.specs.Operator.{apply}
-use Rattle.net_theory.specs.Net.{sig_value}
-use Rattle.net_basis.specs.Conversion.{on_equal}
-use Rattle.net_basis.proofs.Placements.{equal_value}
+-- The chain of the gate as it is now.
+use Rattle.std.proofs.Common.{◌∙◌, ap, sym, arith}
+use Rattle.net_basis.specs.Conversion.{is_made_of, steps_of}
+use Rattle.net_basis.proofs.Locals.{own_word}
+use Rattle.net_basis.proofs.Lengths.{differ}
 use Rattle.net_basis.proofs.expressing.chosen.Goals as goal
 
-pub returns-then-is_there-clause-value : goal.returns-then-is_there-clause-value
-unfolding on_equal
-returns-then-is_there-clause-value c =
-    let same : c.args.gate.now.a ≡ c.args.gate.now.b = search rules in
-    λ f. ap (λ (w : ℕ). apply w (sig_value f c.args.gate.now.a) (sig_value f c.args.gate.now.b)) c.on_equal-simple.ensures
-    ∙ equal_value c.args.gate.now.op c.args.gate.now.a c.args.gate.now.b f same
+pub returns-clause-function : goal.returns-clause-function
+returns-clause-function c = own_word c.args.gate.now c.local_word-simple.result c.local_word-simple.ensures
+
+pub returns-clause-short : goal.returns-clause-short
+returns-clause-short c = λ made. omega (
+  arith,
+  c.is_no_longer.ensures c.if-not-is_no_longer.false,
+  ap steps_of c.recipe_of-short.ensures,
+  ap steps_of c.recipe_of-own.ensures,
+)
+
+pub returns-clause-none : goal.returns-clause-none
+returns-clause-none c = λ off.
+    differ c.recipe_of-short.result.now.is_made c.if-not-short.false
+    (sym (ap is_made_of c.recipe_of-short.ensures) ∙ off)

@@ -1,24 +1,58 @@
--- The recipe of the chosen operator, or none.
-use Rattle.std.proofs.Common.{◌∙◌, arith}
+-- A signal, a gate of the basis, or the chain of a recipe.
+use Rattle.std.proofs.Common.{refl, vec_len, arith}
+use Rattle.std.specs.List.{slice_get}
 use Rattle.op_basis.specs.Basis.{members}
-use Rattle.net_basis.proofs.Recipes.{cant_express, recipe_makes, recipe_few}
+use Rattle.net_basis.specs.Conversion.{steps_of, lengths_by}
+use Rattle.net_basis.proofs.Placements.{signal_expresses}
+use Rattle.net_basis.proofs.Lengths.{length_other, length_some, answer_on, more_on}
 use Rattle.net_basis.proofs.expressing.express.Goals as goal
 
-pub returns-then-not-recipe-clause-answer : goal.returns-then-not-recipe-clause-answer
-returns-then-not-recipe-clause-answer c =
-    cant_express (members c.args.basis) c.args.recipes.now c.from.result c.chosen-op.result c.args.gate.now.op
-    c.index-recipes-from.result c.requires.recipes (omega (arith, c.from.ensures, c.get-word.ensures.below))
-    (c.from.ensures ∙ c.get-word.ensures.word) c.index-recipes-from.is
-    c.if-not-recipe.true (λ e. c.if-word-eq0.false (c.get-word.ensures.word ∙ e))
-    (λ e. c.if-word-eq15.false (c.get-word.ensures.word ∙ e)) c.chosen-op.ensures.itself
+pub returns-in-Some-clause-answer : goal.returns-in-Some-clause-answer
+returns-in-Some-clause-answer c =
+    signal_expresses (members c.args.basis) c.args.sources c.args.gates.now.items c.args.gate.now c.in-Some.sig
+    c.requires.gates (c.in-Some.ensures.some.below _ c.requires.gate) c.in-Some.ensures.some.value
 
-pub replace-requires-clause-made : goal.replace-requires-clause-made
-replace-requires-clause-made c =
-    recipe_makes (members c.args.basis) c.args.recipes.now c.from.result c.chosen-op.result c.index-recipes-from.result
-    c.requires.recipes (omega (arith, c.from.ensures, c.get-word.ensures.below)) (c.from.ensures ∙ c.get-word.ensures.word)
-    c.index-recipes-from.is c.if-not-recipe.false
+pub returns-in-Some-free_now-clause-answer : goal.returns-in-Some-free_now-clause-answer
+returns-in-Some-free_now-clause-answer c =
+    signal_expresses (members c.args.basis) c.args.sources c.args.gates.now.items c.args.gate.now c.in-Some-free_now.sig
+    c.requires.gates (c.in-Some-free_now.ensures.below _ c.requires.gate) c.in-Some-free_now.ensures.value
 
-pub replace-requires-clause-steps : goal.replace-requires-clause-steps
-replace-requires-clause-steps c =
-    recipe_few (members c.args.basis) c.args.recipes.now c.from.result c.index-recipes-from.result c.requires.recipes
-    (omega (arith, c.from.ensures, c.get-word.ensures.below)) c.index-recipes-from.is
+pub returns-in-Some-member_for-clause-answer : goal.returns-in-Some-member_for-clause-answer
+returns-in-Some-member_for-clause-answer c =
+    answer_on (members c.args.basis) c.args.word 1 (lengths_by (members c.args.basis) c.args.recipes.now c.args.word)
+    c.args.sources c.args.gates.now.items c.keep.new.gates.items c.args.gate.now c.keep.result
+    (length_some (members c.args.basis) c.args.recipes.now c.args.word (members c.args.basis c.args.word)
+    c.requires.recipes c.in_default.ensures.none refl)
+    c.keep.ensures.answer
+
+pub returns-in-Some-member_for-clause-more : goal.returns-in-Some-member_for-clause-more
+returns-in-Some-member_for-clause-more c =
+    more_on (vec_len c.args.gates.now) (vec_len c.keep.new.gates) 1
+    (lengths_by (members c.args.basis) c.args.recipes.now c.args.word) c.keep.result
+    (length_some (members c.args.basis) c.args.recipes.now c.args.word (members c.args.basis c.args.word)
+    c.requires.recipes c.in_default.ensures.none refl)
+    c.keep.ensures.more
+
+pub returns-clause-answer : goal.returns-clause-answer
+returns-clause-answer c =
+    answer_on (members c.args.basis) c.args.word (steps_of (slice_get c.args.recipes.now c.args.word))
+    (lengths_by (members c.args.basis) c.args.recipes.now c.args.word) c.args.sources c.args.gates.now.items
+    c.by_recipe.new.gates.items c.args.gate.now c.by_recipe.result
+    (omega (
+      arith,
+      length_other (members c.args.basis) c.args.recipes.now c.args.word c.in_default.ensures.none
+          c.in_default-member_for.ensures.none,
+    ))
+    c.by_recipe.ensures.answer
+
+pub returns-clause-more : goal.returns-clause-more
+returns-clause-more c =
+    more_on (vec_len c.args.gates.now) (vec_len c.by_recipe.new.gates)
+    (steps_of (slice_get c.args.recipes.now c.args.word))
+    (lengths_by (members c.args.basis) c.args.recipes.now c.args.word) c.by_recipe.result
+    (omega (
+      arith,
+      length_other (members c.args.basis) c.args.recipes.now c.args.word c.in_default.ensures.none
+          c.in_default-member_for.ensures.none,
+    ))
+    c.by_recipe.ensures.more

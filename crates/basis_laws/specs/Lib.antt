@@ -1,0 +1,3 @@
+pub mod TablesOver
+pub mod WrittenOver
+pub mod AgainLaws
