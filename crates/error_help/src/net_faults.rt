@@ -52,6 +52,21 @@ pub(crate) const NETLISTS: &[Entry] = &[
         says: &[Part::Text(b"an input, a table or gate, or a latch drives each name that is read")],
     },
     Entry {
+        name: b"NoInput",
+        place: Place::Read,
+        says: &[Part::Text(b"an input of this name, as the other netlist has one")],
+    },
+    Entry {
+        name: b"NoOutput",
+        place: Place::Read,
+        says: &[Part::Text(b"an output of this name, as the other netlist has one")],
+    },
+    Entry {
+        name: b"NoLatch",
+        place: Place::Driven,
+        says: &[Part::Text(b"a latch with this output, as the other netlist has one")],
+    },
+    Entry {
         name: b"Cycle",
         place: Place::Driven,
         says: &[Part::Text(b"tables and gates form no loop; a latch breaks one")],
@@ -154,6 +169,13 @@ pub(crate) const PAIRS: &[Entry] = &[
         place: Place::Nowhere,
         says: &[Part::Text(
             b"the same inputs, outputs and clocks in the same order, and the same latches",
+        )],
+    },
+    Entry {
+        name: b"DifferentLatches",
+        place: Place::Nowhere,
+        says: &[Part::Text(
+            b"the same clocks, and one control and initial value of the latches of each name",
         )],
     },
     Entry {

@@ -348,6 +348,13 @@ const EQUIV: &[Row] = &[
         says: b"no comparison: the values in both netlists where the inputs and then the latches have these bits",
     },
     Row {
+        name: b"--match",
+        value: b"names",
+        allowed: Allowed::Words(&[b"names"]),
+        default: Default::Nothing,
+        says: b"inputs, outputs and latches of two files correspond by their names, in any order",
+    },
+    Row {
         name: b"--format",
         value: b"FORMAT",
         allowed: Allowed::Words(&[b"blif", b"bench", b"aiger"]),
