@@ -140,7 +140,7 @@ pub other_passed : (p : FormatPair) (first second : List ℕ) (c k : Circuit) (r
     IsOther c k e → IfErr r (IsFormatsRefused p first second)
 other_passed p first second c k r e is of_c of_k other = passed (IsFormatsRefused p first second) r e is (other_refused p first second c k e of_c of_k other)
 
-pub sections_passed : (p : FormatPair) (first second : List ℕ) (c k : Circuit) (r : Result ComparedTwo CompareError) (e : CompareError) →
+pub sections_passed : (p : FormatPair) (first second : List ℕ) (c k : Circuit) (r : Result NamedTwo CompareError) (e : CompareError) →
     IsErrAnd r (λ d. d ≡ e) → IsCircuitOfText (first_format p) first c → IsCircuitOfText (second_format p) second k →
     AreSectionsRefused p first second e → IfErr r (IsFormatsRefused p first second)
 sections_passed p first second c k r e is of_c of_k refused = passed (IsFormatsRefused p first second) r e is (sections_refused p first second c k e of_c of_k refused)

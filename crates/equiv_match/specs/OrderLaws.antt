@@ -1,6 +1,6 @@
 -- A netlist in the order of a circuit.
 use Rattle.std.specs.Prelude.{◌≡◌, ℕ, ◌+◌, ◌*◌, ◌≤◌, ◌<◌, ◌^◌, List, length, map, Result, Ok}
-use Rattle.std.proofs.Common.{arith, ap, sym, ◌∙◌, subst, length-append}
+use Rattle.std.proofs.Common.{arith, ap, sym, ◌∙◌, subst, refl, length-append}
 use Rattle.std.proofs.lemmas.List.{length-map}
 use Rattle.std.proofs.lemmas.Grind.{common_steps}
 use Rattle.net_theory.specs.Limits.{most_of_two}
