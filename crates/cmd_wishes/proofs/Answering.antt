@@ -37,7 +37,7 @@ replied format settings w bytes (texts.Text i) reply within said is of = record 
       subst (λ (t : List ℕ). IsWished (wished_format format w) settings (wishes_for format w) bytes t i.report.items)
           (sym of.stands) is,
       of.sections,
-      of.form,
+      of.in_form,
     );
   };
   is = of.is;
@@ -62,7 +62,7 @@ text_replied format form bytes text report answer answer_report reply stands sec
   answer = answer;
   stands = stands;
   sections = sections;
-  form = in_form;
+  in_form = in_form;
   is = is ∙ ap (λ (r : List ℕ). improve_reply (record { text = answer; report = r })) told;
 }
 

@@ -13,7 +13,7 @@ pub record StandsFor (format : NetFormat) (form : FormAsked) (bytes text report 
   pub answer : List ℕ
   pub stands : plain_text format answer ≡ text
   pub sections : KeepsSections format bytes answer
-  pub form : IsInForm format form bytes answer
+  pub in_form : IsInForm format form bytes answer
   pub is : reply ≡ improve_reply (record { text = answer; report = report })
 
 abbrev pub IsReplyOf : NetFormat → FormAsked → List ℕ → WishedText → Reply → Type 0
