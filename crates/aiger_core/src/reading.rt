@@ -39,7 +39,8 @@ fn read_listed(alloc: Global, bytes: &[u8]) -> Result<Listed, NetError>
 /// Lines are checked in order, and the first fault is reported; then more gates than `most`, which is at most
 /// 1,000,000, a name that is driven twice, an undriven name, and a combinational loop. For a text that lists a
 /// well-formed document within this limit the only possible error is out of memory. The circuit has the names of the
-/// symbols and is equivalent to the document; its model's name is `top`. Takes time linear in the text, except for combinational loops.
+/// symbols and is equivalent to the document; its model's name is `top`. Takes time linear in the text, except for
+/// combinational loops.
 #[tactic(auto, using(crate::proofs::Readings::refusals))]
 pub fn read_aiger_up_to(alloc: Global, bytes: &[u8], most: u32) -> Result<Circuit, NetError>
     requires length { length bytes.now < 2 ^ 31 }

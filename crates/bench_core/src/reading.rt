@@ -16,8 +16,9 @@ use std::alloc::Global;
 ///
 /// Lines are checked in order, and the first fault is reported; then more gates than `most`, which is at most
 /// 1,000,000, a name that is driven twice, an undriven name, and a combinational loop. For a text that lists a
-/// well-formed document within this limit the only possible error is out of memory. The circuit has the document's names and is equivalent to it; its
-/// model's name is `top`. Takes time linear in the text, except for combinational loops.
+/// well-formed document within this limit the only possible error is out of memory. The circuit has the document's
+/// names and is equivalent to it; its model's name is `top`. Takes time linear in the text, except for combinational
+/// loops.
 #[tactic(auto, using(blif_core::specs::RefusedLaws::refusals))]
 pub fn read_bench_up_to(alloc: Global, bytes: &[u8], most: u32) -> Result<Circuit, NetError>
     requires length { length bytes.now < 2 ^ 31 }
