@@ -35,14 +35,14 @@ both b is isnt = let e : true ≡ false = sym is ∙ isnt in cc
 -- BLIF is read in the same way, whichever covers are written
 blif_netlist : (covers : CoversAsked) (settings : ImproveSettings) (w : Wishes) (bytes text report : List ℕ) →
     IsWished (blif_in covers) settings w bytes text report → IsNetlist (format_of Blif) bytes
-blif_netlist Rows settings w bytes text report is = record { listed = is.read; said = is.said; well = is.well }
-blif_netlist Least settings w bytes text report is = record { listed = is.read; said = is.said; well = is.well }
+blif_netlist Rows settings w bytes text report is = record { listed = is.read; said = is.said; within = is.within; well = is.well }
+blif_netlist Least settings w bytes text report is = record { listed = is.read; said = is.said; within = is.within; well = is.well }
 
 netlist_of : (format : NetFormat) (settings : ImproveSettings) (w : Wishes) (bytes text report : List ℕ) →
     IsWished (wished_format format w) settings w bytes text report → IsNetlist (format_of format) bytes
 netlist_of Blif settings w bytes text report is = blif_netlist w.covers settings w bytes text report is
-netlist_of Bench settings w bytes text report is = record { listed = is.read; said = is.said; well = is.well }
-netlist_of Aiger settings w bytes text report is = record { listed = is.read; said = is.said; well = is.well }
+netlist_of Bench settings w bytes text report is = record { listed = is.read; said = is.said; within = is.within; well = is.well }
+netlist_of Aiger settings w bytes text report is = record { listed = is.read; said = is.said; within = is.within; well = is.well }
 
 apart : (format : NetFormat) (settings : ImproveSettings) (w : Wishes) (bytes : List ℕ) (i : Improvement)
     (fault : NamedFault) → IsWishAnswer format settings w bytes i → HasWishFault format bytes fault → ⊥

@@ -1,6 +1,7 @@
 -- Two netlists, each a text of its own in a format of its own: the answers and the refusals.
-use Rattle.std.specs.Prelude.{◌≡◌, ℕ, Bool, true, false, List, Ok}
+use Rattle.std.specs.Prelude.{◌≡◌, ℕ, ◌≤◌, Bool, true, false, List, Ok}
 use Rattle.net_theory.specs.Document.{Document}
+use Rattle.net_theory.specs.Cost.{cost}
 use Rattle.net_theory.specs.WellFormed.{IsWellFormed}
 use Rattle.net_document.specs.Listed.{Listed}
 use Rattle.net_document.specs.Format.{Format, IsNetlist, HasNetFault}
@@ -16,11 +17,12 @@ use Rattle.equiv_run.specs.declared.answer.CompareError.TheVariants.{Memory}
 use Rattle.equiv_run.specs.Pairs.{ShareInterface, IsDocumentAnswer}
 use Rattle.equiv_run.specs.Two.{has_no_sink}
 
--- The text is a netlist in the format, and this is its document.
+-- The text is a netlist in the format, within its limit of gates, and this is its document.
 pub record Lists (f : Format) (bytes : List ℕ) (d : Document) : Type 0 where
   pub listed : Listed
   pub said : f.listed bytes ≡ Ok listed
   pub is : listed.document ≡ d
+  pub within : cost d ≤ f.most
   pub well : IsWellFormed d
 
 -- the formats of the two texts

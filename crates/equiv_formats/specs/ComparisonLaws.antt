@@ -1,9 +1,10 @@
 -- Two texts that are compared have an answer or at most one fault.
-use Rattle.std.specs.Prelude.{◌≡◌, ℕ, List, Bool, true, false, Result, Ok, Err, IsErrAnd, IfErr, refl}
+use Rattle.std.specs.Prelude.{◌≡◌, ℕ, List, Bool, true, false, Result, Ok, Err, IsErrAnd, IfErr, refl, ◌≤◌}
 use Rattle.std.proofs.Common.{ap, sym, ◌∙◌, subst}
 use Rattle.net_theory.specs.Document.{Name, Latch, Document, latches_of}
 use Rattle.net_theory.specs.WellFormed.{IsWellFormed}
 use Rattle.net_theory.specs.Circuit.{Circuit}
+use Rattle.net_theory.specs.Cost.{cost}
 use Rattle.net_core.specs.declared.error.NetError.{NetError}
 use Rattle.net_document.specs.Listed.{Listed}
 use Rattle.net_document.specs.Format.{Format, IsNetlist, IsCircuitOfText, HasNetFault}
@@ -26,7 +27,13 @@ use Rattle.equiv_formats.specs.Comparison.{share_sections, ShareSections, AreSec
 -- ---- documents
 
 lists_of : (f : Format) (bytes : List ℕ) (c : Circuit) → (of : IsCircuitOfText f bytes c) → Lists f bytes of.listed.document
-lists_of f bytes c of = record { listed = of.listed; said = of.said; is = refl; well = of.well }
+lists_of f bytes c of = record {
+  listed = of.listed;
+  said = of.said;
+  is = refl;
+  within = faults.text_within f bytes c of;
+  well = of.well;
+}
 
 are_netlists : (p : FormatPair) (first second : List ℕ) (c k : Circuit) → (of_c : IsCircuitOfText (first_format p) first c) →
     (of_k : IsCircuitOfText (second_format p) second k) → AreNetlists p first second of_c.listed.document of_k.listed.document
@@ -43,7 +50,12 @@ lists_one : (f : Format) (bytes : List ℕ) (d e : Document) → Lists f bytes d
 lists_one f bytes d e x y = sym x.is ∙ ap (λ (l : Listed). l.document) (ok_one (f.listed bytes) x.listed y.listed x.said y.said) ∙ y.is
 
 netlist_listed : (f : Format) (bytes : List ℕ) (d : Document) → Lists f bytes d → IsNetlist f bytes
-netlist_listed f bytes d lists = record { listed = lists.listed; said = lists.said; well = subst (λ (x : Document). IsWellFormed x) (sym lists.is) lists.well }
+netlist_listed f bytes d lists = record {
+  listed = lists.listed;
+  said = lists.said;
+  within = subst (λ (x : Document). cost x ≤ f.most) (sym lists.is) lists.within;
+  well = subst (λ (x : Document). IsWellFormed x) (sym lists.is) lists.well;
+}
 
 -- ---- the answers
 
@@ -72,7 +84,7 @@ says_no_sink f bytes c no_sink of is d lists =
 -- ---- the refusals
 
 netlist_of : (f : Format) (bytes : List ℕ) (c : Circuit) → IsCircuitOfText f bytes c → IsNetlist f bytes
-netlist_of f bytes c of = record { listed = of.listed; said = of.said; well = of.well }
+netlist_of f bytes c of = faults.text_netlist f bytes c of
 
 first_refused : (p : FormatPair) (first second : List ℕ) (e : CompareError) → IsFirstRefused (first_format p) first e → IsFormatsRefused p first second e
 first_refused p first second NoSecond refused = absurd refused

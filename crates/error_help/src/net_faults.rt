@@ -2,7 +2,7 @@
 
 use crate::expected::{Entry, Place};
 use help_text::Part;
-use net_theory::{MOST_CUBES, MOST_GATES, MOST_LINE_BYTES, MOST_NAME_BYTES, MOST_TABLE_INPUTS};
+use net_theory::{DEFAULT_GATES, MOST_CUBES, MOST_LINE_BYTES, MOST_NAME_BYTES, MOST_TABLE_INPUTS};
 
 /// Faults of netlists of both formats.
 pub(crate) const NETLISTS: &[Entry] = &[
@@ -23,7 +23,7 @@ pub(crate) const NETLISTS: &[Entry] = &[
     Entry {
         name: b"TooManyGates",
         place: Place::Counted,
-        says: &[Part::Text(b" gates; at most "), Part::Number(MOST_GATES)],
+        says: &[Part::Text(b" gates; at most "), Part::Number(DEFAULT_GATES)],
     },
     Entry {
         name: b"DrivenTwice",

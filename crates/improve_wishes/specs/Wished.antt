@@ -65,13 +65,14 @@ pub record IsTextBy (f : Format) (Can : Circuit → Type 0) (s : ImproveSettings
 
 -- ---- texts
 
--- The bytes list a well-formed document. The text is that of a proper circuit with its model, which is equivalent to the
--- document, has no more gates, and whose net is the document's net improved by the settings and by what is wished of
--- levels. The text lists a well-formed document again, which is equivalent to the first one. The report has the gates and
--- the levels of both.
+-- The bytes list a well-formed document within the limit of gates. The text is that of a proper circuit with its model,
+-- which is equivalent to the document, has no more gates, and whose net is the document's net improved by the settings
+-- and by what is wished of levels. The text lists a well-formed document again, which is equivalent to the first one. The
+-- report has the gates and the levels of both.
 pub record IsWished (f : Format) (s : ImproveSettings) (w : Wishes) (bytes text report : List ℕ) : Type 0 where
   pub read : Listed
   pub said : f.listed bytes ≡ Ok read
+  pub within : cost read.document ≤ f.most
   pub well : IsWellFormed read.document
   pub first : Net
   pub first_is : net_of read.document ≡ Some first

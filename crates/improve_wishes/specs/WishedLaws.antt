@@ -11,6 +11,7 @@ use Rattle.net_theory.specs.Operators.{HasOperatorsWithin}
 use Rattle.net_core.specs.Names.{HasRoomForNames}
 use Rattle.net_document.specs.Format.{Format, IsCircuitOfText, CanOperate, IsFormat}
 use Rattle.net_document.specs.EquivalenceLaws.{equivalent_same, describes_equivalent}
+use Rattle.net_document.specs.FormatLaws.{text_within, own_limit}
 use Rattle.blif_core.specs.Blif.{blif_format}
 use Rattle.bench_core.specs.Bench.{bench_format}
 use Rattle.bench_laws.specs.Spelled.{CanWriteBench}
@@ -157,7 +158,7 @@ writable f g Can s levels b k before after settled named format fits can better 
 -- the circuit of every text can be written
 pub text_can : (f : Format) (Can : Circuit → Type 0) (bytes : List ℕ) (c : Circuit) → IsFormat f Can →
     IsCircuitOfText f bytes c → CanIfRoom Can c
-text_can f Can bytes c format is = λ room. format.kept bytes c is room
+text_can f Can bytes c format is = λ room. format.kept f.most bytes c (own_limit f bytes c is) room
 
 pub bench_can : (bytes : List ℕ) (c : Circuit) → IsFormat bench_format CanWriteBench →
     IsCircuitOfText bench_format bytes c → CanIfRoom CanWriteBench c
@@ -200,6 +201,7 @@ wished f Can s w bytes text report c format is by =
     record {
       read = is.listed;
       said = is.said;
+      within = text_within f bytes c is;
       well = is.well;
       first = c.net;
       first_is = is.circuit.net;

@@ -11,7 +11,7 @@ use Rattle.net_theory.specs.Net.{Net, IsNet, IsSigBelow, IsGateAt, end_of, sig_v
 use Rattle.net_theory.specs.NameLaws.{all_at, at_all, map_at, at_map, index_map}
 use Rattle.net_theory.specs.ValueLaws.{below_later, grown_sig, grown_below, values_after-gate}
 use Rattle.net_theory.specs.Implements.{IsTrivialSink}
-use Rattle.net_theory.specs.Limits.{most_gates}
+use Rattle.net_theory.specs.Limits.{default_gates}
 use Rattle.net_theory.specs.Moving.{Kept, moved, moved_gate, put_sig, sources_stay, nothing_kept}
 use Rattle.net_theory.specs.MovingLaws.{Moves, IsSourceNode, moves_less, moves_start, moved_below, moved_value, source_stays}
 use Rattle.net_core.specs.Marks.{nodes_of, kept}
@@ -193,7 +193,7 @@ still_moved basis n k Zero is still = refl
 still_moved basis n k One is still = refl
 still_moved basis n k (Node p) is still = is.stay p still
 
-converted_over : (basis : Basis) (n : Net) (k : Kept) → IsNet n → IsConverted basis n (end_of n) k → n.sources + length k.gates < 2 ^ 31 → length k.gates ≤ most_gates →
+converted_over : (basis : Basis) (n : Net) (k : Kept) → IsNet n → IsConverted basis n (end_of n) k → n.sources + length k.gates < 2 ^ 31 → length k.gates ≤ default_gates →
     length k.gates ≤ most_for_one * length n.gates → IsNetOver basis n (net_with n k)
 converted_over basis n k net is room few each_few = record {
   behaves = record {
@@ -215,7 +215,7 @@ net_put s gs ss = record { sources = s; gates = gs; sinks = ss }
 
 -- The net of the new gates is the net over the basis.
 pub whole_over : (basis : Basis) (n : Net) (sources : ℕ) (nodes : List Sig) (gates : List Gate) (sinks : List Sig) → IsNet n →
-    IsConverted basis n (end_of n) (kept nodes gates) → n.sources + length gates < 2 ^ 31 → length gates ≤ most_gates →
+    IsConverted basis n (end_of n) (kept nodes gates) → n.sources + length gates < 2 ^ 31 → length gates ≤ default_gates →
     length gates ≤ most_for_one * length n.gates →
     sources ≡ n.sources → sinks ≡ map (moved (nodes_of nodes)) n.sinks →
     IsNetOver basis n (record { sources = sources; gates = gates; sinks = sinks })

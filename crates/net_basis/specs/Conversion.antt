@@ -5,7 +5,7 @@ use Rattle.op_basis.specs.Closed.{operator_of}
 use Rattle.net_theory.specs.declared.data.Gate.{Gate}
 use Rattle.net_theory.specs.Net.{Net, end_of}
 use Rattle.net_theory.specs.Moving.{Kept}
-use Rattle.net_theory.specs.Limits.{most_gates}
+use Rattle.net_theory.specs.Limits.{default_gates}
 use Rattle.net_basis.specs.declared.recipe.Recipe.{Recipe}
 use Rattle.net_basis.specs.declared.expressing.Expressed.{Expressed}
 use Rattle.net_basis.specs.declared.expressing.Expressed.TheVariants as gates
@@ -28,7 +28,7 @@ has_chain rs op = op == 0 || op == 15 || is_made_of (slice_get rs op)
 
 -- with the most gates for one, a net of so many gates could have too many gates or nodes
 abbrev pub MayEndAt : ℕ → ℕ → Type 0
-MayEndAt sources count = most_gates < count + most_for_one ⊎ 2 ^ 31 ≤ sources + 1 + count + most_for_one
+MayEndAt sources count = default_gates < count + most_for_one ⊎ 2 ^ 31 ≤ sources + 1 + count + most_for_one
 
 -- a gate has a signal of its value over the basis, or its operator can't be expressed
 abbrev pub IsGateAnswer : Basis → ℕ → List Gate → List Gate → Gate → Expressed → Type 0
@@ -39,7 +39,7 @@ IsGateAnswer basis sources old new g gates.TooMany = MayEndAt sources (length ol
 -- all gates have signals of their values, and a net may have so many
 pub record IsPassed (basis : Basis) (n : Net) (k : Kept) : Type 0 where
   pub converted : IsConverted basis n (end_of n) k
-  pub few : length k.gates ≤ most_gates
+  pub few : length k.gates ≤ default_gates
   pub room : n.sources + length k.gates < 2 ^ 31
   pub each_few : length k.gates ≤ most_for_one * length n.gates
 

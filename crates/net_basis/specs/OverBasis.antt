@@ -7,7 +7,7 @@ use Rattle.net_theory.specs.Net.{Net, IsNet, sink_values}
 use Rattle.net_theory.specs.Implements.{IsTrivialSink}
 use Rattle.net_theory.specs.Circuit.{Circuit, IsProper}
 use Rattle.net_theory.specs.ExchangeLaws.{with_net}
-use Rattle.net_theory.specs.Limits.{most_gates}
+use Rattle.net_theory.specs.Limits.{default_gates}
 use Rattle.net_document.specs.Equivalence.{AreEquivalentCircuits}
 use Rattle.net_basis.specs.Joins.{is_closed}
 use Rattle.net_basis.specs.declared.answer.NetOver.{NetOver}
@@ -40,7 +40,7 @@ most_for_one = 16
 pub record IsNetOver (basis : Basis) (n m : Net) : Type 0 where
   pub behaves : BehavesAs n m
   pub operators : HaveOperatorsIn basis m.gates
-  pub few : length m.gates ≤ most_gates
+  pub few : length m.gates ≤ default_gates
   pub each_few : length m.gates ≤ most_for_one * length n.gates
 
 -- k is c over the basis: the same names, the same behaviour, and only operators of the basis
@@ -54,7 +54,7 @@ pub record IsCircuitOver (basis : Basis) (c k : Circuit) : Type 0 where
 -- With as many gates for each as there may be, the net could have more than a netlist may have, or 2^31 nodes. A
 -- circuit of at most 6,250 gates, with fewer than 2,147,000,000 sources, is never refused so.
 abbrev pub MayHaveTooMany : Net → Type 0
-MayHaveTooMany n = most_gates < most_for_one * length n.gates ⊎ 2 ^ 31 ≤ n.sources + 1 + most_for_one * length n.gates
+MayHaveTooMany n = default_gates < most_for_one * length n.gates ⊎ 2 ^ 31 ≤ n.sources + 1 + most_for_one * length n.gates
 
 -- ---- what a basis can't express
 

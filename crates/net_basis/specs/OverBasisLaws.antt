@@ -7,11 +7,11 @@ use Rattle.net_theory.specs.declared.data.Sig.TheVariants.{Zero, Node}
 use Rattle.net_theory.specs.Net.{Net}
 use Rattle.net_theory.specs.Circuit.{Circuit, sources_of, IsProper, by_node}
 use Rattle.net_theory.specs.ExchangeLaws.{with_net}
-use Rattle.net_theory.specs.Limits.{most_gates}
+use Rattle.net_theory.specs.Limits.{default_gates}
 use Rattle.net_theory.specs.Operators.{HasOperatorsWithin}
 use Rattle.net_basis.specs.OverBasis.{HaveOperatorsIn, BehavesAs, IsNetOver, IsCircuitOver}
 
-behaving_proper : (c : Circuit) (m : Net) → IsProper c → BehavesAs c.net m → length m.gates ≤ most_gates → IsProper (with_net c m)
+behaving_proper : (c : Circuit) (m : Net) → IsProper c → BehavesAs c.net m → length m.gates ≤ default_gates → IsProper (with_net c m)
 behaving_proper c m is behaves few =
     let within : (i : ℕ) → i < length c.outputs → i < length c.net.sinks = λ i low. omega (arith, is.sink_count) in
     record {
@@ -30,7 +30,7 @@ behaving_proper c m is behaves few =
           get_or_from_slice_get m.sinks i (Node (j + 1)) Zero (behaves.still i (Node (j + 1)) at (omega (arith, is.source_count)));
       equal_outputs = λ i j low_i low_j same. behaves.equal i j Zero (within i low_i) (within j low_j) (is.equal_outputs i j low_i low_j same);
       controls = is.controls;
-      gates = few;
+      gates = omega (arith, few);
     }
 
 -- a circuit with its net over a basis

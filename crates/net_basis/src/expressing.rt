@@ -4,7 +4,7 @@ ghost use Rattle.std.specs.Prelude.{◌≡◌, ◌+◌, ◌≤◌, ◌<◌, ◌^
 ghost use Rattle.chain_theory.specs.Operator.{apply};
 ghost use Rattle.op_basis.specs.Basis.{members};
 ghost use Rattle.net_theory.specs.Net.{IsGateAt, AreGates, sig_value, gate_value};
-ghost use Rattle.net_theory.specs.Limits.{most_gates};
+ghost use Rattle.net_theory.specs.Limits.{default_gates};
 ghost use Rattle.net_basis.specs.Joins.{operands, makes};
 ghost use Rattle.net_basis.specs.Placing.{AreRecipes};
 ghost use Rattle.net_basis.specs.OverBasis.{most_for_one};
@@ -13,7 +13,7 @@ ghost use Rattle.net_basis.specs.Conversion.{has_chain, on_equal as on_equal_of,
 use crate::placing::push_chain;
 use crate::recipe::Recipe;
 use net_core::{Gate, Sig};
-use net_theory::MOST_GATES;
+use net_theory::DEFAULT_GATES;
 use op_basis::{Basis, Op};
 use std::alloc::AllocError;
 
@@ -30,13 +30,13 @@ pub enum Expressed {
 
 /// Whether a net may have so many more gates.
 pub fn has_room(sources: u32, gates: usize, more: usize) -> bool
-    requires gates { gates ≤ most_gates }
+    requires gates { gates ≤ default_gates }
     requires more { more < 2 ^ 62 }
     ensures nodes { result ≡ true → sources + 1 + gates + more < 2 ^ 31 }
-    ensures gates { result ≡ true → gates + more ≤ most_gates }
+    ensures gates { result ≡ true → gates + more ≤ default_gates }
     ensures none { result ≡ false → more ≤ most_for_one → MayEndAt sources gates }
 {
-    if gates + more > MOST_GATES as usize {
+    if gates + more > DEFAULT_GATES as usize {
         return false;
     }
     (sources as usize) + 1 + gates + more < 1 << 31
@@ -86,11 +86,11 @@ fn keep(
 ) -> Result<Expressed, AllocError>
     requires gates { AreGates sources gates.old.items }
     requires gate { IsGateAt (sources + 1 + length gates.old.items) gate.now }
-    requires few { vec_len gates.old ≤ most_gates }
+    requires few { vec_len gates.old ≤ default_gates }
     requires room { sources + vec_len gates.old < 2 ^ 31 }
     requires member { members basis gate.now.op ≡ true }
     ensures answer { IfOk result (IsGateAnswer (members basis) sources gates.old.items gates.new.items gate.now) }
-    ensures few { OnOk result (vec_len gates.new ≤ most_gates) }
+    ensures few { OnOk result (vec_len gates.new ≤ default_gates) }
     ensures room { OnOk result (sources + vec_len gates.new < 2 ^ 31) }
     ensures more { OnOk result (vec_len gates.new ≤ vec_len gates.old + most_for_one) }
 {
@@ -117,10 +117,10 @@ fn replace(
         gate_value f gate.now }
     requires gates { AreGates sources gates.old.items }
     requires gate { IsGateAt (sources + 1 + length gates.old.items) gate.now }
-    requires few { vec_len gates.old ≤ most_gates }
+    requires few { vec_len gates.old ≤ default_gates }
     requires room { sources + vec_len gates.old < 2 ^ 31 }
     ensures answer { IfOk result (IsGateAnswer (members basis) sources gates.old.items gates.new.items gate.now) }
-    ensures few { OnOk result (vec_len gates.new ≤ most_gates) }
+    ensures few { OnOk result (vec_len gates.new ≤ default_gates) }
     ensures room { OnOk result (sources + vec_len gates.new < 2 ^ 31) }
     ensures more { OnOk result (vec_len gates.new ≤ vec_len gates.old + most_for_one) }
 {
@@ -142,10 +142,10 @@ pub fn express(
     requires recipes { AreRecipes (members basis) recipes.now }
     requires gates { AreGates sources gates.old.items }
     requires gate { IsGateAt (sources + 1 + length gates.old.items) gate.now }
-    requires few { vec_len gates.old ≤ most_gates }
+    requires few { vec_len gates.old ≤ default_gates }
     requires room { sources + vec_len gates.old < 2 ^ 31 }
     ensures answer { IfOk result (IsGateAnswer (members basis) sources gates.old.items gates.new.items gate.now) }
-    ensures few { OnOk result (vec_len gates.new ≤ most_gates) }
+    ensures few { OnOk result (vec_len gates.new ≤ default_gates) }
     ensures room { OnOk result (sources + vec_len gates.new < 2 ^ 31) }
     ensures more { OnOk result (vec_len gates.new ≤ vec_len gates.old + most_for_one) }
 {

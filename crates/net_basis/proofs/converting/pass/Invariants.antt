@@ -2,7 +2,7 @@
 use Rattle.std.proofs.Common.{◌≡◌, ◌≤◌, ◌<◌, ◌+◌, ◌*◌, ◌^◌, length, vec_len}
 use Rattle.op_basis.specs.Basis.{members}
 use Rattle.net_theory.specs.Net.{end_of}
-use Rattle.net_theory.specs.Limits.{most_gates}
+use Rattle.net_theory.specs.Limits.{default_gates}
 use Rattle.net_core.specs.Marks.{kept}
 use Rattle.net_basis.specs.OverBasis.{most_for_one}
 use Rattle.net_basis.specs.Placing.{IsConverted, AreLeft}
@@ -13,7 +13,7 @@ invariant-loop-gate l = record {
   converted : IsConverted (members l.basis) l.net l.node (kept l.nodes l.gates.items);
   left : AreLeft l.net l.node l.left;
   nodes : length l.nodes ≡ end_of l.net;
-  few : vec_len l.gates ≤ most_gates;
+  few : vec_len l.gates ≤ default_gates;
   room : l.net.sources + vec_len l.gates < 2 ^ 31;
   each_few : vec_len l.gates + most_for_one * length l.left ≤ most_for_one * length l.net.gates;
 }
