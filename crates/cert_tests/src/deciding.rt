@@ -116,7 +116,7 @@ fn is_found_again(alloc: Global, first: &[u8], second: &[u8], max: u32, wanted: 
 }
 
 /// Tables, the same tables with their inputs permuted, the greatest number of steps, and the answer. Fewer than
-/// five steps are enumerated without a search.
+/// five steps are enumerated without a search, and of more or fewer than three outputs more may be refuted so.
 const PERMUTED: &[(&str, &[u8], &[u8], u32, Answer)] = &[
     (
         "a full adder beside an AND: five steps",
@@ -126,9 +126,9 @@ const PERMUTED: &[(&str, &[u8], &[u8], u32, Answer)] = &[
         Answer::Shorter,
     ),
     (
-        "and beside an OR: no five steps",
-        b"inputs 3\n01101001\n00010111\n00000011\n00111111\n",
-        b"inputs 3\n01101001\n00010111\n00000101\n01011111\n",
+        "a full adder beside an AND of three: no five steps",
+        b"inputs 3\n01101001\n00010111\n00000010\n",
+        b"inputs 3\n01101001\n00010111\n00000100\n",
         5,
         Answer::Least,
     ),
