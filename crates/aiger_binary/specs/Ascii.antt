@@ -1,9 +1,10 @@
 -- The binary form of AIGER (the AIGER 1.9 report), by the ASCII text of the same file. The inputs are the variables from 1
 -- on, then come the latches and the gates. So a binary text has no lines of inputs, and its latches have no literals. A gate
 -- is two numbers: by how much its first fanin is below its literal, and its second fanin below the first. The lines of
--- outputs and the symbols are as in the ASCII form. A text that isn't of the binary form stands for one that
+-- outputs, bad states and constraints and the symbols are as in the ASCII form. A text that isn't of the binary form stands for one that
 -- isn't of the ASCII form, and whose first fault is in the line of the same input, latch, output, gate or symbol.
-use Rattle.std.specs.Prelude.{ℕ, zero, suc, ◌+◌, ◌-◌, ◌*◌, Bool, false, ◌==◌, if◌then◌else◌, List, [], ◌∷◌, ◌++◌, Option, Some, None, codes, decimal}
+use Rattle.std.specs.Prelude.{ℕ, zero, suc, ◌+◌, ◌-◌, ◌*◌, Bool, false, not, ◌&&◌, ◌==◌, if◌then◌else◌, List, [], ◌∷◌, ◌++◌, Option, Some, None, codes, decimal}
+use Rattle.std.specs.Char.{is_ascii_digit}
 use Rattle.std.specs.Option.{is_some}
 use Rattle.std.proofs.Common.{drop}
 use Rattle.text_core.specs.Lines.{Line, lines_of, line_bytes}
@@ -86,10 +87,15 @@ gates_in variable (suc n) s = gates_in (variable + 1) n (gate_in (variable * 2) 
 
 -- ---- symbols
 
--- whether a line begins the comment, as ABC also writes it, without an LF after the `c`
+abbrev pub begins_digit : List ℕ → Bool
+begins_digit [] = false
+begins_digit (b ∷ bs) = is_ascii_digit b
+
+-- whether a line begins the comment, as ABC also writes it, without an LF after the `c`; a digit after it makes the line
+-- the symbol of a constraint
 abbrev pub begins_comment : List ℕ → Bool
 begins_comment [] = false
-begins_comment (b ∷ bs) = b == 99
+begins_comment (b ∷ bs) = b == 99 && not (begins_digit bs)
 
 -- the lines after the gates: symbols, up to the comment, of which the line `c` is left
 unfoldable pub tail_of : List Line → List ℕ

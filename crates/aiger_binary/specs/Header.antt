@@ -1,4 +1,5 @@
--- The counts of a binary header: `aig M I L O A`, after which there may be further counts.
+-- The counts of a binary header: `aig M I L O A B C`, of which the last two may be left out, and after which there may be
+-- further counts.
 use Rattle.std.specs.Prelude.{ℕ, ◌+◌, ◌==◌, Bool, List, [], ◌∷◌, Option, Some, None, codes}
 use Rattle.text_core.specs.Items.{items_of}
 use Rattle.text_core.specs.Numbers.{number_up_to}
@@ -23,13 +24,19 @@ abbrev pub first_count : List (List ℕ) → Option Found
 first_count [] = None
 first_count (x ∷ xs) = number_up_to most_count x >>= λ n. Some (found n xs)
 
+-- the count that is the first item, or 0 where it was left out
+abbrev pub further_count : List (List ℕ) → Option Found
+further_count [] = Some (found 0 [])
+further_count (x ∷ xs) = first_count (x ∷ xs)
+
+-- Bad states and constraints have lines as outputs have, and are counted with them.
 abbrev pub counts_from : List (List ℕ) → Option Counts
 counts_from items = first_count items >>= λ m. first_count m.more >>= λ i. first_count i.more >>= λ l.
-    first_count l.more >>= λ o. first_count o.more >>= λ a. Some (record {
+    first_count l.more >>= λ o. first_count o.more >>= λ a. further_count a.more >>= λ b. further_count b.more >>= λ c. Some (record {
       variables = m.number;
       inputs = i.number;
       latches = l.number;
-      outputs = o.number;
+      outputs = o.number + b.number + c.number;
       gates = a.number;
     })
 

@@ -11,7 +11,8 @@ use text_core::{after, next_item, number_up_to};
 /// The greatest count; `specs/Header` has the same.
 const MOST_COUNT: u32 = 2_097_152;
 
-/// The numbers of a header: the greatest variable, and how many inputs, latches, outputs and gates there are.
+/// The numbers of a header: the greatest variable, and how many inputs, latches, outputs and gates there are. Bad
+/// states and constraints count as outputs.
 #[derive(Clone, Copy)]
 pub(crate) struct Counts {
     pub(crate) variables: u32,
@@ -41,6 +42,21 @@ fn first_count(items: Option<&[u8]>) -> Option<Found<'_>>
     Some(Found { number, more })
 }
 
+/// The count that is the first item of a text, or 0 where it was left out.
+fn further_count(items: Option<&[u8]>) -> Option<Found<'_>>
+    ensures exact { option_map (λ (f : Found). spec.found f.number (items_left f.more)) result ≡
+        spec.further_count (items_left items.entry) }
+    ensures low { IfSome result (λ f. f.number ≤ spec.most_count) }
+{
+    if items.is_none() {
+        return Some(Found {
+            number: 0,
+            more: None,
+        });
+    }
+    first_count(items)
+}
+
 /// The counts of a header; None if it isn't one.
 pub(crate) fn counts_in(text: &[u8]) -> Option<Counts>
     ensures exact { result ≡ spec.counts_in text.now }
@@ -52,11 +68,13 @@ pub(crate) fn counts_in(text: &[u8]) -> Option<Counts>
     let latches = first_count(inputs.more)?;
     let outputs = first_count(latches.more)?;
     let gates = first_count(outputs.more)?;
+    let bads = further_count(gates.more)?;
+    let constraints = further_count(bads.more)?;
     Some(Counts {
         variables: variables.number,
         inputs: inputs.number,
         latches: latches.number,
-        outputs: outputs.number,
+        outputs: outputs.number + bads.number + constraints.number,
         gates: gates.number,
     })
 }

@@ -1,4 +1,4 @@
-//! The lines of inputs, latches and outputs.
+//! The lines of inputs, latches, outputs and symbols.
 
 ghost use Rattle.std.specs.Prelude.{◌≡◌, ◌+◌, ◌≤◌, ◌++◌, [], OnOk, IfOk};
 ghost use Rattle.text_core.specs.Lines.{line_bytes, lines_of};
@@ -111,12 +111,22 @@ pub(crate) fn push_outputs<'a>(
     Ok(rest)
 }
 
-/// Whether a line begins the comment.
+/// Whether a text begins with a digit.
+fn begins_digit(text: &[u8]) -> bool
+    ensures { result ≡ spec.begins_digit text.now }
+{
+    match text.first() {
+        Some(byte) => byte.is_ascii_digit(),
+        None => false,
+    }
+}
+
+/// Whether a line begins the comment; it isn't the symbol of a constraint.
 fn begins_comment(text: &[u8]) -> bool
     ensures { result ≡ spec.begins_comment text.now }
 {
-    match text.first() {
-        Some(byte) => *byte == b'c',
+    match text.split_first() {
+        Some((byte, rest)) => *byte == b'c' && !begins_digit(rest),
         None => false,
     }
 }

@@ -1,14 +1,13 @@
 //! The reader of both forms.
 
-ghost use Rattle.std.specs.Prelude.{◌≡◌, ◌<◌, ◌^◌, length, IfOk, IfErr, true};
+ghost use Rattle.std.specs.Prelude.{◌≡◌, ◌<◌, ◌^◌, length, IfOk, IfErr};
 ghost use Rattle.net_core.specs.declared.error.NetError.TheVariants.{Memory};
 ghost use Rattle.net_document.specs.Format.{IsNetlist, IsCircuitOfText, IsRefusedText};
 ghost use Rattle.aiger_core.specs.Aiger.{aiger_format};
-ghost use Rattle.aiger_binary.specs.Ascii.{is_binary as is_binary_of};
 ghost use Rattle.aiger_forms.specs.Forms.{aiger_forms};
 
-use aiger_binary::{ascii_text, is_binary};
 use aiger_core::read_aiger;
+use aiger_sections::plain_text;
 use net_core::{Circuit, NetError};
 use std::alloc::Global;
 
@@ -27,30 +26,17 @@ fn read_long(alloc: Global, text: &[u8]) -> Result<Circuit, NetError>
     read_aiger(alloc, text)
 }
 
-/// Reads the circuit of a binary text.
-#[tactic(auto, using(crate::proofs::Binaries::binaries))]
-fn read_binary(alloc: Global, bytes: &[u8]) -> Result<Circuit, NetError>
-    requires { is_binary_of bytes.now ≡ true }
-    ensures circuit { IfOk result (IsCircuitOfText aiger_forms bytes.now) }
-    ensures refused { IfErr result (IsRefusedText aiger_forms bytes.now) }
-    ensures complete { IfErr result (λ e. IsNetlist aiger_forms bytes.now → e ≡ Memory) }
-{
-    let text = ascii_text(alloc, bytes)?;
-    read_long(alloc, &text)
-}
-
-/// Reads the circuit of an AIGER text in either form, which its first three bytes say: `aag` or `aig`. Errors are those
-/// of `read_aiger`; where a binary text is faulty, the line is that which the same input, latch, output, gate or symbol
-/// has in the ASCII form.
-#[tactic(auto, using(crate::proofs::Binaries::binaries))]
+/// Reads the circuit of an AIGER text in either form, which its first three bytes say: `aag` or `aig`. Bad states and
+/// invariant constraints are further outputs of the circuit, after the outputs, and one without a symbol has the name
+/// of the output that it is: after 2 outputs the first bad state is `o2`. Errors are those of `read_aiger`; where a
+/// binary text is faulty, the line is that which the same input, latch, output, gate or symbol has in the ASCII form.
+#[tactic(auto, using(crate::proofs::Binaries::plains))]
 pub fn read_forms(alloc: Global, bytes: &[u8]) -> Result<Circuit, NetError>
     requires { length bytes.now < 2 ^ 31 }
     ensures circuit { IfOk result (IsCircuitOfText aiger_forms bytes.now) }
     ensures refused { IfErr result (IsRefusedText aiger_forms bytes.now) }
     ensures complete { IfErr result (λ e. IsNetlist aiger_forms bytes.now → e ≡ Memory) }
 {
-    if is_binary(bytes) {
-        return read_binary(alloc, bytes);
-    }
-    read_aiger(alloc, bytes)
+    let text = plain_text(alloc, bytes)?;
+    read_long(alloc, &text)
 }

@@ -1,6 +1,7 @@
-//! The bytes of the binary form of a file whose variables are the inputs, the latches and the gates in this order.
-//! Nothing is promised of them: `pack` tests them.
+//! The bytes of the binary form of a file whose variables are the inputs, the latches and the gates in this order. Its
+//! last outputs are bad states and constraints. Nothing is promised of them: `pack` tests them.
 
+use aiger_sections::Sections;
 use aiger_text::{AigFile, AigGate, AigLatch, PortKind, Reset, Symbol};
 use std::alloc::{AllocError, Global};
 use text_core::push_number;
@@ -28,14 +29,26 @@ fn push_count(out: &mut Vec<u8>, count: usize) -> Result<(), AllocError> {
     push_number(out, count.min(MOST_COUNT) as u32)
 }
 
+/// Adds the counts of bad states and constraints; those of 0 at the end are left out.
+fn push_further(out: &mut Vec<u8>, sections: Sections) -> Result<(), AllocError> {
+    if sections.bads > 0 || sections.constraints > 0 {
+        push_count(out, sections.bads as usize)?;
+    }
+    if sections.constraints > 0 {
+        push_count(out, sections.constraints as usize)?;
+    }
+    Ok(())
+}
+
 /// Adds the header.
-fn push_header(out: &mut Vec<u8>, file: &AigFile) -> Result<(), AllocError> {
+fn push_header(out: &mut Vec<u8>, sections: Sections, file: &AigFile) -> Result<(), AllocError> {
     out.extend_from_slice(b"aig")?;
     push_count(out, file.variables as usize)?;
     push_count(out, file.inputs.len())?;
     push_count(out, file.latches.len())?;
-    push_count(out, file.outputs.len())?;
+    push_count(out, sections.outputs as usize)?;
     push_count(out, file.gates.len())?;
+    push_further(out, sections)?;
     out.push(b'\n')?;
     Ok(())
 }
@@ -81,20 +94,40 @@ fn push_gates(out: &mut Vec<u8>, gates: &[AigGate]) -> Result<(), AllocError> {
     Ok(())
 }
 
-/// The first byte of a symbol.
-fn kind_byte(kind: PortKind) -> u8 {
-    match kind {
-        PortKind::Input => b'i',
-        PortKind::Latch => b'l',
-        PortKind::Output => b'o',
+/// Adds the key of an output.
+fn push_output_key(out: &mut Vec<u8>, sections: Sections, position: u32) -> Result<(), AllocError> {
+    let further = position.saturating_sub(sections.outputs);
+    let last = further.saturating_sub(sections.bads);
+    if position < sections.outputs {
+        out.push(b'o')?;
+        return push_number(out, position);
     }
+    if further < sections.bads {
+        out.push(b'b')?;
+        return push_number(out, further);
+    }
+    out.push(b'c')?;
+    push_number(out, last)
+}
+
+/// Adds the key of a symbol.
+fn push_key(out: &mut Vec<u8>, sections: Sections, symbol: &Symbol) -> Result<(), AllocError> {
+    match symbol.kind {
+        PortKind::Input => out.push(b'i')?,
+        PortKind::Latch => out.push(b'l')?,
+        PortKind::Output => return push_output_key(out, sections, symbol.position),
+    }
+    push_number(out, symbol.position)
 }
 
 /// Adds symbols.
-fn push_symbols(out: &mut Vec<u8>, symbols: &[Symbol]) -> Result<(), AllocError> {
+fn push_symbols(
+    out: &mut Vec<u8>,
+    sections: Sections,
+    symbols: &[Symbol],
+) -> Result<(), AllocError> {
     for symbol in symbols {
-        out.push(kind_byte(symbol.kind))?;
-        push_number(out, symbol.position)?;
+        push_key(out, sections, symbol)?;
         out.push(b' ')?;
         out.extend_from_slice(symbol.name.get())?;
         out.push(b'\n')?;
@@ -103,12 +136,16 @@ fn push_symbols(out: &mut Vec<u8>, symbols: &[Symbol]) -> Result<(), AllocError>
 }
 
 /// The bytes.
-pub(crate) fn binary_bytes(alloc: Global, file: &AigFile) -> Result<Vec<u8>, AllocError> {
+pub(crate) fn binary_bytes(
+    alloc: Global,
+    sections: Sections,
+    file: &AigFile,
+) -> Result<Vec<u8>, AllocError> {
     let mut out = Vec::new(alloc);
-    push_header(&mut out, file)?;
+    push_header(&mut out, sections, file)?;
     push_latches(&mut out, &file.latches)?;
     push_outputs(&mut out, &file.outputs)?;
     push_gates(&mut out, &file.gates)?;
-    push_symbols(&mut out, &file.symbols)?;
+    push_symbols(&mut out, sections, &file.symbols)?;
     Ok(out)
 }

@@ -5,6 +5,7 @@ ghost use Rattle.aiger_binary.specs.Ascii.{is_binary as is_binary_of, ascii_of, 
 
 use crate::bytes::binary_bytes;
 use aiger_binary::{ascii_text, is_binary};
+use aiger_sections::{plain_text, sections};
 use aiger_text::{NetError, read_ascii};
 use std::alloc::{AllocError, Global};
 
@@ -13,11 +14,12 @@ const MOST_BYTES: usize = 2_147_483_647;
 
 /// Bytes that may be the binary form of a text; None if it isn't an ASCII text.
 fn guess(alloc: Global, text: &[u8]) -> Result<Option<Vec<u8>>, AllocError> {
-    if text.len() > MOST_BYTES {
+    let plain = plain_text(alloc, text)?;
+    if plain.len() > MOST_BYTES {
         return Ok(None);
     }
-    match read_ascii(alloc, text) {
-        Ok(file) => Ok(Some(binary_bytes(alloc, &file)?)),
+    match read_ascii(alloc, &plain) {
+        Ok(file) => Ok(Some(binary_bytes(alloc, sections(alloc, text)?, &file)?)),
         Err(NetError::Memory) => Err(AllocError),
         Err(_) => Ok(None),
     }

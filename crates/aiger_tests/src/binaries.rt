@@ -41,6 +41,11 @@ const PAIRS: &[(&str, &[u8], &[u8])] = &[
         b"aag 1 1 0 1 0\n2\n3\ni0 a\nc\n",
     ),
     (
+        "a bad state, and the symbol of a constraint",
+        b"aig 1 1 0 0 0 1 1\n3\n2\nb0 p\nc0 q\nc\n",
+        b"aag 1 1 0 0 0 1 1\n2\n3\n2\nb0 p\nc0 q\nc\n",
+    ),
+    (
         "a number with a last byte of 0",
         b"aig 3 2 0 1 1\n7\n\x82\x80\x80\x00\x02",
         b"aag 3 2 0 1 1\n2\n4\n7\n6 4 2\n",

@@ -1,5 +1,5 @@
 //! Tests of the AIGER crates: faults with their lines, texts that are cut off, in either form, the names and tables of
-//! documents, and the symbols that are written.
+//! documents, the symbols that are written, and bad states and constraints.
 #![tactic(auto)]
 
 #[cfg(test)]
@@ -8,5 +8,7 @@ mod binaries;
 mod faults;
 #[cfg(test)]
 mod listings;
+#[cfg(test)]
+mod sections;
 #[cfg(test)]
 mod written;

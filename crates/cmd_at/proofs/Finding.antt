@@ -1,5 +1,5 @@
 -- What was found for two circuits holds of the texts that they were read from.
-use Rattle.std.specs.Prelude.{◌≡◌, ℕ, Bool, List, ◌++◌, length, map, Result, Ok, Err, IsErrAnd, IfErr}
+use Rattle.std.specs.Prelude.{◌≡◌, ℕ, Bool, true, false, List, ◌++◌, length, map, Result, Ok, Err, IsErrAnd, IfErr}
 use Rattle.std.proofs.Common.{sym, ap, subst, ◌∙◌, refl}
 use Rattle.net_theory.specs.Document.{Name, Latch, Document, latches_of, latch_output, source_names}
 use Rattle.net_theory.specs.Net.{bit_of, sink_values}
@@ -12,7 +12,7 @@ use Rattle.equiv_run.specs.declared.answer.CompareError.TheVariants.{NoSecond, F
 use Rattle.equiv_run.specs.CircuitAnswers.{IsOther}
 use Rattle.equiv_run.specs.PairLaws.{shared, have_same}
 use Rattle.equiv_run.specs.NameBits.{has_assignment, values_are}
-use Rattle.equiv_formats.specs.Comparison.{first_format, second_format, AreNetlists, IsFormatsRefused, IsFirstRefused, IsSecondRefused}
+use Rattle.equiv_formats.specs.Comparison.{first_format, second_format, AreNetlists, share_sections, ShareSections, IsFormatsRefused, IsFirstRefused, IsSecondRefused, AreSectionsRefused}
 use Rattle.cmd_at.specs.declared.circuits.Valued.{Valued}
 use Rattle.cmd_at.specs.declared.circuits.Valued.TheVariants.{Text, Miscounted}
 use Rattle.cmd_at.specs.AtText.{values_text}
@@ -51,9 +51,9 @@ values_of d c bits of describes long = record {
 }
 
 text_found : (p : FormatPair) (bits : List Bool) (first second : List ℕ) (c k : Circuit) (text : List ℕ) →
-    IsCircuitOfText (first_format p) first c → IsCircuitOfText (second_format p) second k → IsCircuitText c k bits text →
-    IsValuesText p bits first second text
-text_found p bits first second c k text of_c of_k found =
+    IsCircuitOfText (first_format p) first c → IsCircuitOfText (second_format p) second k → ShareSections p first second →
+    IsCircuitText c k bits text → IsValuesText p bits first second text
+text_found p bits first second c k text of_c of_k sections found =
     let d = of_c.listed.document in
     let long : length bits ≡ length (sources_of c) = found.each_source ∙ of_c.circuit.proper.source_count in
     record {
@@ -61,6 +61,7 @@ text_found p bits first second c k text of_c of_k found =
       other = of_k.listed.document;
       netlists = are_netlists p first second c k of_c of_k;
       interface = shared d of_k.listed.document c k of_c.circuit.describes of_k.circuit.describes found.interface;
+      sections = sections;
       ones = sink_values c.net (bit_of bits);
       others = sink_values k.net (bit_of bits);
       first_values = values_of d c bits of_c.circuit.proper of_c.circuit.describes long;
@@ -78,22 +79,23 @@ text_found p bits first second c k text of_c of_k found =
     }
 
 count_found : (p : FormatPair) (bits : List Bool) (first second : List ℕ) (c k : Circuit) (count : ℕ) →
-    IsCircuitOfText (first_format p) first c → IsCircuitOfText (second_format p) second k → AreMiscounted c k bits count →
-    IsOtherCount p bits first second count
-count_found p bits first second c k count of_c of_k found = record {
+    IsCircuitOfText (first_format p) first c → IsCircuitOfText (second_format p) second k → ShareSections p first second →
+    AreMiscounted c k bits count → IsOtherCount p bits first second count
+count_found p bits first second c k count of_c of_k sections found = record {
   one = of_c.listed.document;
   other = of_k.listed.document;
   netlists = are_netlists p first second c k of_c of_k;
   interface = shared of_c.listed.document of_k.listed.document c k of_c.circuit.describes of_k.circuit.describes found.interface;
+  sections = sections;
   counted = ap length (names_same of_c.listed.document c of_c.circuit.describes) ∙ sym of_c.circuit.proper.source_count ∙ found.counted;
   apart = found.other;
 }
 
 pub valued_found : (p : FormatPair) (bits : List Bool) (first second : List ℕ) (c k : Circuit) (valued : Valued) →
     IsCircuitOfText (first_format p) first c → IsCircuitOfText (second_format p) second k →
-    IsCircuitValued c k bits valued → IsValued p bits first second valued
-valued_found p bits first second c k (Text text) of_c of_k found = text_found p bits first second c k text.items of_c of_k found
-valued_found p bits first second c k (Miscounted count) of_c of_k found = count_found p bits first second c k count of_c of_k found
+    ShareSections p first second → IsCircuitValued c k bits valued → IsValued p bits first second valued
+valued_found p bits first second c k (Text text) of_c of_k sections found = text_found p bits first second c k text.items of_c of_k sections found
+valued_found p bits first second c k (Miscounted count) of_c of_k sections found = count_found p bits first second c k count of_c of_k sections found
 
 -- ---- the refusals
 
@@ -128,9 +130,26 @@ other_refused p first second c k DifferentInterface of_c of_k other = record {
   one = of_c.listed.document;
   other = of_k.listed.document;
   are = are_netlists p first second c k of_c of_k;
-  differ = λ share. other (have_same of_c.listed.document of_k.listed.document c k of_c.circuit.describes of_k.circuit.describes share);
+  differ = λ share sections. other (have_same of_c.listed.document of_k.listed.document c k of_c.circuit.describes of_k.circuit.describes share);
 }
 other_refused p first second c k Memory of_c of_k other = tt
+
+false_or_true : (b : Bool) → b ≡ false → b ≡ true → ⊥
+false_or_true b isnt is = let e : true ≡ false = sym is ∙ isnt in cc
+
+sections_refused : (p : FormatPair) (first second : List ℕ) (c k : Circuit) (e : CompareError) →
+    IsCircuitOfText (first_format p) first c → IsCircuitOfText (second_format p) second k →
+    AreSectionsRefused p first second e → IsFormatsRefused p first second e
+sections_refused p first second c k NoSecond of_c of_k refused = absurd refused
+sections_refused p first second c k (First e) of_c of_k refused = absurd refused
+sections_refused p first second c k (Second e) of_c of_k refused = absurd refused
+sections_refused p first second c k DifferentInterface of_c of_k refused = record {
+  one = of_c.listed.document;
+  other = of_k.listed.document;
+  are = are_netlists p first second c k of_c of_k;
+  differ = λ share sections. false_or_true (share_sections p.first p.second first second) refused sections;
+}
+sections_refused p first second c k Memory of_c of_k refused = tt
 
 -- an error that is passed on
 passed : {T : Type 0} (P : CompareError → Type 0) (r : Result T CompareError) (e : CompareError) →
@@ -154,3 +173,10 @@ pub other_passed : {T : Type 0} (p : FormatPair) (first second : List ℕ) (c k 
     IsCircuitOfText (second_format p) second k → IsOther c k e → IfErr r (IsFormatsRefused p first second)
 other_passed p first second c k r e is of_c of_k other =
     passed (IsFormatsRefused p first second) r e is (other_refused p first second c k e of_c of_k other)
+
+pub sections_passed : {T : Type 0} (p : FormatPair) (first second : List ℕ) (c k : Circuit) (r : Result T CompareError)
+    (e : CompareError) → IsErrAnd r (λ d. d ≡ e) → IsCircuitOfText (first_format p) first c →
+    IsCircuitOfText (second_format p) second k → AreSectionsRefused p first second e →
+    IfErr r (IsFormatsRefused p first second)
+sections_passed p first second c k r e is of_c of_k refused =
+    passed (IsFormatsRefused p first second) r e is (sections_refused p first second c k e of_c of_k refused)

@@ -73,14 +73,14 @@ counted p bits first second text count is other =
 
 never : (p : FormatPair) (bits : List Bool) (first second : List ℕ) (count : ℕ) (e : CompareError) →
     IsOtherCount p bits first second count → HasFormatsFault p first second e → ⊥
-never p bits first second count e is fault = formats_sound p first second is.one is.other e is.netlists is.interface fault
+never p bits first second count e is fault = formats_sound p first second is.one is.other e is.netlists is.interface is.sections fault
 
 apart : (p : FormatPair) (bits : List Bool) (first second text : List ℕ) (fault : AtFault) →
     IsAtAnswer p bits first second text → HasAtFault p bits first second fault → ⊥
 apart p bits first second text FirstEmpty is meets = both (is_bare first) meets is.said.one
 apart p bits first second text SecondEmpty is meets = both (is_bare second) meets.other is.said.other
 apart p bits first second text (Faulty e) is meets =
-    formats_sound p first second is.answer.one is.answer.other e is.answer.netlists is.answer.interface meets.holds
+    formats_sound p first second is.answer.one is.answer.other e is.answer.netlists is.answer.interface is.answer.sections meets.holds
 apart p bits first second text (OtherCount count) is meets = counted p bits first second text count is.answer meets.holds
 
 one : (p : FormatPair) (bits : List Bool) (first second : List ℕ) (a b : AtFault) → HasAtFault p bits first second a →

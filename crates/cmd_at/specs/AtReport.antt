@@ -10,7 +10,7 @@ use Rattle.equiv_theory.specs.Counterexample.{HaveSameInterface}
 use Rattle.equiv_run.specs.declared.answer.CompareError.{CompareError}
 use Rattle.equiv_run.specs.Pairs.{ShareInterface}
 use Rattle.equiv_run.specs.Two.{is_bare}
-use Rattle.equiv_formats.specs.Comparison.{AreNetlists, HasFormatsFault}
+use Rattle.equiv_formats.specs.Comparison.{AreNetlists, ShareSections, HasFormatsFault}
 use Rattle.frame_core.specs.declared.status.Status.TheVariants.{Done, Malformed}
 use Rattle.frame_core.specs.Reported.{Reply, Refusal, at}
 use Rattle.frame_core.specs.Task.{Task, at_once}
@@ -59,6 +59,7 @@ pub record IsValuesText (p : FormatPair) (bits : List Bool) (first second text :
   pub other : Document
   pub netlists : AreNetlists p first second one other
   pub interface : ShareInterface one other
+  pub sections : ShareSections p first second
   pub ones : List Bool
   pub others : List Bool
   pub first_values : HasValues one bits ones
@@ -73,6 +74,7 @@ pub record IsOtherCount (p : FormatPair) (bits : List Bool) (first second : List
   pub other : Document
   pub netlists : AreNetlists p first second one other
   pub interface : ShareInterface one other
+  pub sections : ShareSections p first second
   pub counted : length (source_names one) ≡ count
   pub apart : length bits ≢ count
 

@@ -7,6 +7,7 @@ ghost use Rattle.equiv_formats.specs.Comparison.{IsFormatsRefused, IsFirstRefuse
 ghost use Rattle.cmd_at.specs.AtReport.{IsValued};
 
 use crate::circuits::{Valued, value_circuits};
+use equiv_formats::check_sections;
 use equiv_run::CompareError;
 use format_names::{FormatPair, NetFormat};
 use net_core::{Circuit, NetError};
@@ -55,6 +56,7 @@ pub(crate) fn value_texts(
 {
     let one = read_first(alloc, formats.first, first)?;
     let other = read_second(alloc, formats.second, second)?;
+    check_sections(alloc, formats, first, second)?;
     let valued = value_circuits(alloc, &one, &other, bits)?;
     Ok(valued)
 }

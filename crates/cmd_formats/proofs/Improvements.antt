@@ -1,19 +1,14 @@
 -- The result of `improve` for an AIGER text.
 use Rattle.std.specs.Prelude.{◌≡◌, ℕ, ◌≤◌, List, length, true, false, codes}
-use Rattle.std.proofs.Common.{◌∙◌, ap, sym, subst, refl}
+use Rattle.std.proofs.Common.{sym, subst}
 use Rattle.std.proofs.lemmas.Grind.{common_steps}
-use Rattle.text_core.specs.Words.{after}
 use Rattle.net_theory.specs.Limits.{most_of_netlist}
-use Rattle.net_theory.specs.Circuit.{Circuit}
 use Rattle.net_core.specs.declared.error.NetError.{NetError}
 use Rattle.net_core.specs.declared.error.NetError.TheVariants as nets
 use Rattle.net_document.specs.Format.{IsRefusedText}
-use Rattle.aiger_text.specs.File.{AigFile}
-use Rattle.aiger_text.specs.Spelling.{spelled}
-use Rattle.aiger_core.specs.Written.{file_of}
-use Rattle.aiger_binary.specs.Ascii.{is_binary, ascii_in}
+use Rattle.aiger_binary.specs.Ascii.{is_binary}
+use Rattle.aiger_sections.specs.Plain.{plain_in, sections_in}
 use Rattle.aiger_forms.specs.Forms.{aiger_forms}
-use Rattle.aiger_forms.specs.FormLaws.{ascii_plain}
 use Rattle.command_line.specs.WithinLaws.{within_members}
 use Rattle.settings.specs.declared.improve.ImproveSettings.{ImproveSettings}
 use Rattle.equiv_run.specs.Two.{is_bare}
@@ -25,30 +20,18 @@ use Rattle.cmd_improve.specs.ImproveReport.{improve_reply, improve_refusal}
 use Rattle.cmd_improve.specs.NamedReport.{Empty, Faulty, empty_refusal}
 use Rattle.cmd_formats.specs.AigerReport.{HasAndGates, aiger_task}
 
-spelled_plain : (f : AigFile) → is_binary (spelled f) ≡ false
-unfolding spelled after
-spelled_plain f = refl
-
-circuit_plain : (c : Circuit) → is_binary (aiger_forms.text c) ≡ false
-circuit_plain c = spelled_plain (file_of c)
-
--- the text of an improved circuit is in the ASCII form
-plain : (settings : ImproveSettings) (bytes text report : List ℕ) → IsReported aiger_forms settings bytes text report →
-    is_binary text ≡ false
-plain settings bytes text report is = ap is_binary is.improved.spelled ∙ circuit_plain is.circuit
-
 pub reports : (settings : ImproveSettings) (bytes text answer report : List ℕ) (reply : Reply) → length bytes ≤ most_of_netlist →
-    is_bare bytes ≡ false → IsReported aiger_forms settings bytes text report → ascii_in answer ≡ ascii_in text →
-    (is_binary bytes ≡ false → answer ≡ text) →
+    is_bare bytes ≡ false → IsReported aiger_forms settings bytes text report → plain_in answer ≡ text →
+    sections_in answer ≡ sections_in bytes → (is_binary bytes ≡ false → is_binary answer ≡ false) →
     reply ≡ improve_reply (record { text = answer; report = report }) → HasReply (aiger_task settings) bytes reply
-reports settings bytes text answer report reply within said reported stands same is = record {
+reports settings bytes text answer report reply within said reported stands sections form is = record {
   answer = record { text = answer; report = report };
   has = record {
     within = within;
     said = said;
-    reported = subst (λ (t : List ℕ). IsReported aiger_forms settings bytes t report)
-        (sym (stands ∙ ascii_plain text (plain settings bytes text report reported))) reported;
-    form = λ ascii. ap is_binary (same ascii) ∙ plain settings bytes text report reported;
+    reported = subst (λ (t : List ℕ). IsReported aiger_forms settings bytes t report) (sym stands) reported;
+    sections = sections;
+    form = form;
   };
   is = is;
 }

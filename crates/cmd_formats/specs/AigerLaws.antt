@@ -6,7 +6,7 @@ use Rattle.net_document.specs.Format.{IsNetlist}
 use Rattle.net_document.specs.FormatLaws.{fault_one, fault_never}
 use Rattle.format_names.specs.declared.formats.NetFormat.TheVariants.{Aiger}
 use Rattle.net_formats.specs.FormatLaws.{lists_well}
-use Rattle.aiger_binary.specs.Ascii.{ascii_in}
+use Rattle.aiger_sections.specs.Plain.{plain_in}
 use Rattle.aiger_forms.specs.Forms.{aiger_forms}
 use Rattle.settings.specs.declared.improve.ImproveSettings.{ImproveSettings}
 use Rattle.equiv_run.specs.Two.{is_bare}
@@ -36,7 +36,7 @@ apart : (settings : ImproveSettings) (bytes : List ℕ) (i : Improvement) (fault
     IsAigerImprovement settings bytes i → HasAigerFault bytes fault → ⊥
 apart settings bytes i Empty is meets = both (is_bare bytes) meets.bare is.said
 apart settings bytes i (Faulty e) is meets =
-    fault_never aiger_forms bytes e (lists_well Aiger) (reported_netlist settings bytes (ascii_in i.text) i.report is.reported) meets.fault
+    fault_never aiger_forms bytes e (lists_well Aiger) (reported_netlist settings bytes (plain_in i.text) i.report is.reported) meets.fault
 
 one : (bytes : List ℕ) (a b : NamedFault) → HasAigerFault bytes a → HasAigerFault bytes b → named_refusal a ≡ named_refusal b
 one bytes Empty Empty x y = refl

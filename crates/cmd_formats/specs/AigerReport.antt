@@ -3,7 +3,8 @@ use Rattle.std.specs.Prelude.{◌≡◌, ℕ, ◌≤◌, List, length, Bool, tru
 use Rattle.net_theory.specs.Limits.{most_of_netlist}
 use Rattle.net_core.specs.declared.error.NetError.{NetError}
 use Rattle.net_document.specs.Format.{HasNetFault}
-use Rattle.aiger_binary.specs.Ascii.{is_binary, ascii_in}
+use Rattle.aiger_binary.specs.Ascii.{is_binary}
+use Rattle.aiger_sections.specs.Plain.{plain_in, sections_in}
 use Rattle.aiger_forms.specs.Forms.{aiger_forms}
 use Rattle.command_line.specs.Options.{is_within}
 use Rattle.settings.specs.declared.improve.ImproveSettings.{ImproveSettings}
@@ -21,12 +22,14 @@ has_and_gates basis = is_within basis and_set
 abbrev pub HasAndGates : ℕ → Type 0
 HasAndGates basis = has_and_gates basis ≡ true
 
--- The text isn't empty, and is an AIGER file. The answer, in either form, stands for the ASCII text of an equivalent one with
--- no more gates, within the settings, and the report is that of `improve`. An ASCII file is answered by an ASCII file.
+-- The text isn't empty, and is an AIGER file. The plain text of the answer is that of an equivalent one with no more gates,
+-- within the settings, and the report is that of `improve`. The answer has as many outputs, bad states and constraints, and
+-- an ASCII file is answered by an ASCII file.
 pub record IsAigerImprovement (settings : ImproveSettings) (bytes : List ℕ) (i : Improvement) : Type 0 where
   pub within : length bytes ≤ most_of_netlist
   pub said : is_bare bytes ≡ false
-  pub reported : IsReported aiger_forms settings bytes (ascii_in i.text) i.report
+  pub reported : IsReported aiger_forms settings bytes (plain_in i.text) i.report
+  pub sections : sections_in i.text ≡ sections_in bytes
   pub form : is_binary bytes ≡ false → is_binary i.text ≡ false
 
 -- The text isn't an AIGER file, and this is its first fault.

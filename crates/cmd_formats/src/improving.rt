@@ -1,14 +1,17 @@
-//! The command `improve` for AIGER: an equivalent file with no more gates, in the form of the given one.
+//! The command `improve` for AIGER: an equivalent file with no more gates, in the form and the sections of
+//! the given one.
 ghost use Rattle.std.specs.Prelude.{◌≡◌, ◌≤◌, length, false, IfOk};
 ghost use Rattle.net_theory.specs.Limits.{most_of_netlist};
 ghost use Rattle.settings.specs.Improve.{IsInRange};
 ghost use Rattle.equiv_run.specs.Two.{is_bare as is_bare_of};
 ghost use Rattle.frame_core.specs.Views.{Judges};
-ghost use Rattle.aiger_binary.specs.Ascii.{is_binary as is_binary_of, ascii_in};
+ghost use Rattle.aiger_binary.specs.Ascii.{is_binary as is_binary_of};
+ghost use Rattle.aiger_sections.specs.Plain.{plain_in, sections_in};
 ghost use Rattle.cmd_formats.specs.AigerReport.{aiger_task, has_and_gates as has_and_gates_of, HasAndGates};
 
 use aiger_binary::is_binary;
 use aiger_pack::pack;
+use aiger_sections::sectioned;
 use cmd_improve::{empty, refusal_of, reply_of};
 use equiv_run::is_bare;
 use frame_core::{Replier, Reply, Stop};
@@ -32,17 +35,22 @@ pub fn has_and_gates(basis: Basis) -> bool
     basis.get() & AND_SET == basis.get()
 }
 
-/// The answer in the form of the text that was read.
+/// The answer in the sections and the form of the text that was read.
 fn formed(alloc: Global, bytes: &[u8], improved: ImprovedText) -> Result<ImprovedText, AllocError>
-    ensures text { IfOk result (λ i. ascii_in i.text.items ≡ ascii_in improved.text.items) }
-    ensures same { IfOk result (λ i. is_binary_of bytes.now ≡ false → i.text.items ≡ improved.text.items) }
+    ensures text { IfOk result (λ i. plain_in i.text.items ≡ improved.text.items) }
+    ensures sections { IfOk result (λ i. sections_in i.text.items ≡ sections_in bytes.now) }
+    ensures form { IfOk result (λ i. is_binary_of bytes.now ≡ false → is_binary_of i.text.items ≡ false) }
     ensures report { IfOk result (λ i. i.report.items ≡ improved.report.items) }
 {
-    if !is_binary(bytes) {
-        return Ok(improved);
-    }
     let ImprovedText { text, report } = improved;
-    let packed = pack(alloc, &text)?;
+    let placed = sectioned(alloc, bytes, &text)?;
+    if !is_binary(bytes) {
+        return Ok(ImprovedText {
+            text: placed,
+            report,
+        });
+    }
+    let packed = pack(alloc, &placed)?;
     Ok(ImprovedText {
         text: packed,
         report,

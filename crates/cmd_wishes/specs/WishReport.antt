@@ -3,7 +3,8 @@ use Rattle.std.specs.Prelude.{◌≡◌, ℕ, ◌≤◌, List, [], ◌++◌, len
 use Rattle.net_theory.specs.Limits.{most_of_netlist}
 use Rattle.net_core.specs.declared.error.NetError.{NetError}
 use Rattle.net_document.specs.Format.{Format, HasNetFault}
-use Rattle.aiger_binary.specs.Ascii.{is_binary, ascii_in}
+use Rattle.aiger_binary.specs.Ascii.{is_binary}
+use Rattle.aiger_sections.specs.Plain.{plain_in, sections_in}
 use Rattle.format_names.specs.declared.formats.NetFormat.{NetFormat}
 use Rattle.format_names.specs.declared.formats.NetFormat.TheVariants.{Blif, Bench, Aiger}
 use Rattle.net_formats.specs.Formats.{format_of}
@@ -28,21 +29,21 @@ wants_binary_form forms.Given bytes = is_binary bytes
 wants_binary_form forms.Ascii bytes = false
 wants_binary_form forms.Binary bytes = true
 
-abbrev pub wants_binary : NetFormat → FormAsked → List ℕ → Bool
-wants_binary Blif form bytes = false
-wants_binary Bench form bytes = false
-wants_binary Aiger form bytes = wants_binary_form form bytes
-
--- The ASCII text for which an answer stands. Of BLIF and BENCH it is the answer itself.
+-- The plain text of an answer. Of BLIF and BENCH it is the answer itself.
 abbrev pub plain_text : NetFormat → List ℕ → List ℕ
 plain_text Blif text = text
 plain_text Bench text = text
-plain_text Aiger text = ascii_in text
+plain_text Aiger text = plain_in text
 
 -- Where the ASCII form is wished for, the answer has it, and so it does to an ASCII file where no form is wished for.
 abbrev pub IsInForm : NetFormat → FormAsked → List ℕ → List ℕ → Type 0
 IsInForm Aiger form bytes text = wants_binary_form form bytes ≡ false → is_binary text ≡ false
 IsInForm format form bytes text = Unit {0}
+
+-- An AIGER file has as many outputs, bad states and constraints as the one that was read.
+abbrev pub KeepsSections : NetFormat → List ℕ → List ℕ → Type 0
+KeepsSections Aiger bytes text = sections_in text ≡ sections_in bytes
+KeepsSections format bytes text = Unit {0}
 
 -- ---- answers
 
@@ -85,6 +86,7 @@ wish_reply TooLarge = without_text too_large_line
 abbrev pub IsAnswer : NetFormat → ImproveSettings → Wishes → List ℕ → WishAnswer → Type 0
 IsAnswer format settings w bytes (Improved i) =
     IsWished (wished_format format w) settings (wishes_for format w) bytes (plain_text format i.text) i.report ×
+    KeepsSections format bytes i.text ×
     IsInForm format w.form bytes i.text
 IsAnswer format settings w bytes (CannotExpress name) =
     IsCannotExpress (wished_format format w) settings (wishes_for format w) bytes name

@@ -11,7 +11,6 @@ ghost use Rattle.improve_wishes.specs.Texts.{IsWishedText};
 ghost use Rattle.frame_core.specs.Views.{Judges};
 ghost use Rattle.cmd_wishes.specs.WishReport.{wished_format, wishes_for, wished_task};
 
-use crate::forms::wants_binary;
 use crate::replying::reply_of_text;
 use cmd_improve::{empty, refusal_of};
 use equiv_run::is_bare;
@@ -87,9 +86,8 @@ fn reply_to<S: Solver, T: Tell>(
     requires basis { FitsFormat (format_of format) settings }
     ensures { Judges (wished_task format settings wishes) bytes.now result }
 {
-    let binary = wants_binary(format, wishes.form, bytes);
     match wished_text::<S, T>(alloc, format, bytes, settings, wishes, tell) {
-        Ok(wished) => match reply_of_text(alloc, binary, wished) {
+        Ok(wished) => match reply_of_text(alloc, format, wishes.form, bytes, wished) {
             Ok(reply) => Ok(reply),
             Err(AllocError) => Err(Stop::NoMemory),
         },

@@ -6,8 +6,9 @@ ghost use Rattle.cmd_wishes.specs.WishReport as spec;
 
 use crate::forms::formed;
 use cmd_improve::reply_of;
+use format_names::NetFormat;
 use frame_core::{Reply, Report, Status};
-use improve_wishes::WishedText;
+use improve_wishes::{FormAsked, WishedText};
 use std::alloc::{AllocError, Global};
 
 /// No text, and a line that says why.
@@ -41,18 +42,21 @@ fn too_large_line(alloc: Global) -> Result<Vec<u8>, AllocError>
     Vec::from_slice(alloc, b"error: TooManyOverBasis\n")
 }
 
-/// The reply to a text that was improved by wishes, in the binary form if it is wanted.
+/// The reply to a text that was improved by wishes: in the sections of the text that was read, and in the form that is
+/// wanted.
 #[tactic(auto, using(crate::proofs::Answering::answering))]
 pub(crate) fn reply_of_text(
     alloc: Global,
-    binary: bool,
+    format: NetFormat,
+    form: FormAsked,
+    bytes: &[u8],
     wished: WishedText,
 ) -> Result<Reply, AllocError>
-    ensures { IfOk result (λ reply. IsReplyOf binary wished (reply_value reply)) }
+    ensures { IfOk result (λ reply. IsReplyOf format form bytes.now wished (reply_value reply)) }
 {
     match wished {
         WishedText::Text(improved) => {
-            let answer = formed(alloc, binary, improved)?;
+            let answer = formed(alloc, format, form, bytes, improved)?;
             Ok(reply_of(answer))
         }
         WishedText::Cannot(name) => {

@@ -1,5 +1,5 @@
 //! The results of searches: from a given size on without a certificate, and of all sizes with one.
-ghost use Rattle.std.specs.Prelude.{◌≡◌, ◌≤◌, true, false, length, IfOk};
+ghost use Rattle.std.specs.Prelude.{◌≡◌, ◌+◌, ◌≤◌, true, false, length, IfOk};
 ghost use Rattle.chain_theory.specs.Operator.{Basis};
 ghost use Rattle.chain_theory.specs.Specification.{Specification};
 ghost use Rattle.chain_theory.specs.Agreement.{NoneBelow};
@@ -13,6 +13,16 @@ use progress::Silent;
 use sat_solve::Solver;
 use size_loop::{SizeOutcome, search, search_size};
 use std::alloc::{AllocError, Global};
+use step_core::refutes;
+
+/// The greatest size that is refuted by enumeration; greater ones are left to the solver.
+const MOST_REFUTED: u32 = 6;
+
+/// The tests of an enumeration for each conflict that a formula may have.
+const TESTS_OF_CONFLICT: u32 = 8;
+
+/// With so many outputs windows have read sets that rule out little, and the solver is faster.
+const OUTPUTS_OF_SOLVER: u32 = 3;
 
 /// Whether some chain of at most `max` steps of the header implements its tables.
 #[derive(Drop)]
@@ -108,6 +118,18 @@ pub(crate) fn search_whole<S: Solver>(
     }
 }
 
+/// Whether a size is refuted by enumeration, within a number of tests in proportion to the budget. False says nothing.
+fn is_refuted(alloc: Global, header: &Header, size: u32) -> Result<bool, AllocError>
+    ensures { IfOk result (λ refuted. refuted ≡ true → Fewer header.now size → Fewer header.now (size + 1)) }
+{
+    if size > MOST_REFUTED || header.spec.outputs() == OUTPUTS_OF_SOLVER {
+        return Ok(false);
+    }
+    let work = header.conflicts.saturating_mul(TESTS_OF_CONFLICT);
+    let refuted = refutes(alloc, &header.spec, header.basis, size, work)?;
+    Ok(refuted)
+}
+
 /// Searches the sizes from `from` on, where no chain of fewer steps implements the tables.
 #[tactic(auto, using(crate::specs::DecidedLaws::deciding))]
 pub(crate) fn search_from<S: Solver>(
@@ -120,6 +142,9 @@ pub(crate) fn search_from<S: Solver>(
     ensures { IfOk result (λ sized. IsSized question.entry.header.now sized) }
 {
     for size in from..question.header.max + 1 {
+        if is_refuted(alloc, question.header, size)? {
+            continue;
+        }
         match search_size::<S>(alloc, question.header, size)? {
             SizeOutcome::Found(chain) => return Ok(SizeResult::Found { chain, low: size }),
             SizeOutcome::Logged(section) => {

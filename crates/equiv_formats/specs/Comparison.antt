@@ -1,9 +1,12 @@
 -- Two netlists, each a text of its own in a format of its own: the answers and the refusals.
-use Rattle.std.specs.Prelude.{◌≡◌, ℕ, Bool, List, Ok}
+use Rattle.std.specs.Prelude.{◌≡◌, ℕ, Bool, true, false, List, Ok}
 use Rattle.net_theory.specs.Document.{Document}
 use Rattle.net_theory.specs.WellFormed.{IsWellFormed}
 use Rattle.net_document.specs.Listed.{Listed}
 use Rattle.net_document.specs.Format.{Format, IsNetlist, HasNetFault}
+use Rattle.aiger_sections.specs.Plain.{sections_in, are_same}
+use Rattle.format_names.specs.declared.formats.NetFormat.{NetFormat}
+use Rattle.format_names.specs.declared.formats.NetFormat.TheVariants.{Blif, Bench, Aiger}
 use Rattle.format_names.specs.declared.formats.FormatPair.{FormatPair}
 use Rattle.net_formats.specs.Formats.{format_of}
 use Rattle.equiv_run.specs.declared.answer.EquivOutcome.{EquivOutcome}
@@ -32,12 +35,24 @@ pub record AreNetlists (p : FormatPair) (first second : List ℕ) (one other : D
   pub first_is : Lists (first_format p) first one
   pub second_is : Lists (second_format p) second other
 
+-- whether two AIGER texts have as many outputs, bad states and constraints; beside another format all are outputs
+abbrev pub share_sections : NetFormat → NetFormat → List ℕ → List ℕ → Bool
+share_sections Aiger Aiger first second = are_same (sections_in first) (sections_in second)
+share_sections Aiger Blif first second = true
+share_sections Aiger Bench first second = true
+share_sections Blif other first second = true
+share_sections Bench other first second = true
+
+abbrev pub ShareSections : FormatPair → List ℕ → List ℕ → Type 0
+ShareSections p first second = share_sections p.first p.second first second ≡ true
+
 -- The texts are two netlists of one interface, and `text` is the answer for their documents.
 pub record IsFormatsAnswer (p : FormatPair) (budget : ℕ) (first second text : List ℕ) (outcome : EquivOutcome) : Type 0 where
   pub one : Document
   pub other : Document
   pub are : AreNetlists p first second one other
   pub interface : ShareInterface one other
+  pub sections : ShareSections p first second
   pub reported : IsDocumentAnswer budget one other text outcome
 
 -- The answer says whether the netlist of the text has neither an output nor a latch.
@@ -49,12 +64,12 @@ pub record HasLaterFault (f : Format) (first second : List ℕ) (P : List ℕ �
   pub first_is : IsNetlist f first
   pub fault : P second
 
--- two netlists of different interfaces
+-- two netlists of different interfaces, or different sections
 pub record DifferInInterface (p : FormatPair) (first second : List ℕ) : Type 0 where
   pub one : Document
   pub other : Document
   pub are : AreNetlists p first second one other
-  pub differ : ShareInterface one other → ⊥
+  pub differ : ShareInterface one other → ShareSections p first second → ⊥
 
 -- Why the texts can't be compared. Out of memory isn't such a reason, and none of them lacks a second one.
 abbrev pub HasFormatsFault : FormatPair → List ℕ → List ℕ → CompareError → Type 0
@@ -87,3 +102,11 @@ IsSecondRefused f bytes Memory = Unit {0}
 IsSecondRefused f bytes NoSecond = ⊥
 IsSecondRefused f bytes (First e) = ⊥
 IsSecondRefused f bytes DifferentInterface = ⊥
+
+-- Why two netlists are refused for their sections.
+abbrev pub AreSectionsRefused : FormatPair → List ℕ → List ℕ → CompareError → Type 0
+AreSectionsRefused p first second DifferentInterface = share_sections p.first p.second first second ≡ false
+AreSectionsRefused p first second Memory = Unit {0}
+AreSectionsRefused p first second NoSecond = ⊥
+AreSectionsRefused p first second (First e) = ⊥
+AreSectionsRefused p first second (Second e) = ⊥

@@ -1,5 +1,5 @@
 -- Two texts that are compared have an answer or at most one fault.
-use Rattle.std.specs.Prelude.{◌≡◌, ℕ, List, Bool, Result, Ok, Err, IsErrAnd, IfErr, refl}
+use Rattle.std.specs.Prelude.{◌≡◌, ℕ, List, Bool, true, false, Result, Ok, Err, IsErrAnd, IfErr, refl}
 use Rattle.std.proofs.Common.{ap, sym, ◌∙◌, subst}
 use Rattle.net_theory.specs.Document.{Name, Latch, Document, latches_of}
 use Rattle.net_theory.specs.WellFormed.{IsWellFormed}
@@ -21,6 +21,7 @@ use Rattle.equiv_run.specs.PairLaws.{shared, have_same, answered_of, interface_o
 use Rattle.equiv_run.specs.CircuitAnswers.{IsCircuitAnswer, IsOther}
 use Rattle.equiv_run.specs.Two.{lacks_sinks}
 use Rattle.equiv_formats.specs.Comparison.{Lists, first_format, second_format, AreNetlists, IsFormatsAnswer, SaysNoSink, DifferInInterface, HasFormatsFault, IsFormatsRefused, IsFirstRefused, IsSecondRefused}
+use Rattle.equiv_formats.specs.Comparison.{share_sections, ShareSections, AreSectionsRefused}
 
 -- ---- documents
 
@@ -47,13 +48,14 @@ netlist_listed f bytes d lists = record { listed = lists.listed; said = lists.sa
 -- ---- the answers
 
 pub formats_answer : (p : FormatPair) (budget : ℕ) (first second : List ℕ) (c k : Circuit) (text : List ℕ) (outcome : EquivOutcome) →
-    IsCircuitOfText (first_format p) first c → IsCircuitOfText (second_format p) second k →
+    IsCircuitOfText (first_format p) first c → IsCircuitOfText (second_format p) second k → ShareSections p first second →
     IsCircuitAnswer budget c k text outcome → IsFormatsAnswer p budget first second text outcome
-formats_answer p budget first second c k text outcome of_c of_k reported = record {
+formats_answer p budget first second c k text outcome of_c of_k sections reported = record {
   one = of_c.listed.document;
   other = of_k.listed.document;
   are = are_netlists p first second c k of_c of_k;
   interface = shared of_c.listed.document of_k.listed.document c k of_c.circuit.describes of_k.circuit.describes (interface_of budget c k text outcome reported);
+  sections = sections;
   reported = answered_of budget of_c.listed.document of_k.listed.document c k text outcome of_c.circuit of_k.circuit reported;
 }
 
@@ -96,9 +98,25 @@ other_refused p first second c k DifferentInterface of_c of_k other = record {
   one = of_c.listed.document;
   other = of_k.listed.document;
   are = are_netlists p first second c k of_c of_k;
-  differ = λ share. other (have_same of_c.listed.document of_k.listed.document c k of_c.circuit.describes of_k.circuit.describes share);
+  differ = λ share sections. other (have_same of_c.listed.document of_k.listed.document c k of_c.circuit.describes of_k.circuit.describes share);
 }
 other_refused p first second c k Memory of_c of_k other = tt
+
+false_or_true : (b : Bool) → b ≡ false → b ≡ true → ⊥
+false_or_true b isnt is = let e : true ≡ false = sym is ∙ isnt in cc
+
+sections_refused : (p : FormatPair) (first second : List ℕ) (c k : Circuit) (e : CompareError) → IsCircuitOfText (first_format p) first c →
+    IsCircuitOfText (second_format p) second k → AreSectionsRefused p first second e → IsFormatsRefused p first second e
+sections_refused p first second c k NoSecond of_c of_k refused = absurd refused
+sections_refused p first second c k (First e) of_c of_k refused = absurd refused
+sections_refused p first second c k (Second e) of_c of_k refused = absurd refused
+sections_refused p first second c k DifferentInterface of_c of_k refused = record {
+  one = of_c.listed.document;
+  other = of_k.listed.document;
+  are = are_netlists p first second c k of_c of_k;
+  differ = λ share sections. false_or_true (share_sections p.first p.second first second) refused sections;
+}
+sections_refused p first second c k Memory of_c of_k refused = tt
 
 -- an error that is passed on
 passed : (P : CompareError → Type 0) (r : Result ComparedTwo CompareError) (e : CompareError) → IsErrAnd r (λ d. d ≡ e) →
@@ -120,6 +138,11 @@ pub other_passed : (p : FormatPair) (first second : List ℕ) (c k : Circuit) (r
     IsOther c k e → IfErr r (IsFormatsRefused p first second)
 other_passed p first second c k r e is of_c of_k other = passed (IsFormatsRefused p first second) r e is (other_refused p first second c k e of_c of_k other)
 
+pub sections_passed : (p : FormatPair) (first second : List ℕ) (c k : Circuit) (r : Result ComparedTwo CompareError) (e : CompareError) →
+    IsErrAnd r (λ d. d ≡ e) → IsCircuitOfText (first_format p) first c → IsCircuitOfText (second_format p) second k →
+    AreSectionsRefused p first second e → IfErr r (IsFormatsRefused p first second)
+sections_passed p first second c k r e is of_c of_k refused = passed (IsFormatsRefused p first second) r e is (sections_refused p first second c k e of_c of_k refused)
+
 -- ---- one answer or one fault
 
 never : (k : NetFormat) (bytes : List ℕ) (e : NetError) → IsNetlist (format_of k) bytes → HasNetFault (format_of k) bytes e → ⊥
@@ -131,20 +154,20 @@ same_shared p first second d e d' e' x y share =
     subst (λ (z : Document). ShareInterface d' z) (lists_one (second_format p) second e e' x.second_is y.second_is)
     (subst (λ (z : Document). ShareInterface z e) (lists_one (first_format p) first d d' x.first_is y.first_is) share)
 
--- two netlists of one interface have no fault
+-- two netlists of one interface, and the same sections, have no fault
 pub formats_sound : (p : FormatPair) (first second : List ℕ) (d e : Document) (error : CompareError) →
-    AreNetlists p first second d e → ShareInterface d e → HasFormatsFault p first second error → ⊥
-formats_sound p first second d e NoSecond are share fault = fault
-formats_sound p first second d e (First error) are share fault = never p.first first error (netlist_listed (first_format p) first d are.first_is) fault
-formats_sound p first second d e (Second error) are share fault = never p.second second error (netlist_listed (second_format p) second e are.second_is) fault.fault
-formats_sound p first second d e DifferentInterface are share fault =
-    fault.differ (same_shared p first second d e fault.one fault.other are fault.are share)
-formats_sound p first second d e Memory are share fault = fault
+    AreNetlists p first second d e → ShareInterface d e → ShareSections p first second → HasFormatsFault p first second error → ⊥
+formats_sound p first second d e NoSecond are share sections fault = fault
+formats_sound p first second d e (First error) are share sections fault = never p.first first error (netlist_listed (first_format p) first d are.first_is) fault
+formats_sound p first second d e (Second error) are share sections fault = never p.second second error (netlist_listed (second_format p) second e are.second_is) fault.fault
+formats_sound p first second d e DifferentInterface are share sections fault =
+    fault.differ (same_shared p first second d e fault.one fault.other are fault.are share) sections
+formats_sound p first second d e Memory are share sections fault = fault
 
 pub formats_apart : (p : FormatPair) (budget : ℕ) (first second text : List ℕ) (outcome : EquivOutcome) (error : CompareError) →
     IsFormatsAnswer p budget first second text outcome → HasFormatsFault p first second error → ⊥
 formats_apart p budget first second text outcome error is fault =
-    formats_sound p first second is.one is.other error is.are is.interface fault
+    formats_sound p first second is.one is.other error is.are is.interface is.sections fault
 
 first_netlist : (p : FormatPair) (first second : List ℕ) → DifferInInterface p first second → IsNetlist (first_format p) first
 first_netlist p first second is = netlist_listed (first_format p) first is.one is.are.first_is

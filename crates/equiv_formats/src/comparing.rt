@@ -8,6 +8,7 @@ ghost use Rattle.equiv_run.specs.Two.{lacks_sinks as lacks_sinks_of};
 ghost use Rattle.equiv_formats.specs.Comparison.{first_format, IsFormatsAnswer, IsFormatsRefused, SaysNoSink};
 ghost use Rattle.equiv_formats.specs.Comparison.{IsFirstRefused, IsSecondRefused};
 
+use crate::sections::check_sections;
 use equiv_run::{CompareError, ComparedTwo, compare_circuits};
 use format_names::{FormatPair, NetFormat};
 use net_core::{Circuit, NetError};
@@ -54,7 +55,8 @@ fn lacks_sinks(circuit: &Circuit) -> bool
 /// the second then has none either, and nothing is compared.
 ///
 /// Two texts that can't be compared are refused with the first fault of the first, that of the second, or different
-/// interfaces, never with `NoSecond`. Two netlists of one interface are refused only if memory runs out. `tell`
+/// interfaces, never with `NoSecond`; the interfaces of two AIGER texts also differ by how many outputs, bad states or
+/// constraints there are. Two netlists of one interface are refused only if memory runs out. `tell`
 /// hears of each gate that is compared.
 pub fn compare_netlists<S: Solver, T: Tell>(
     alloc: Global,
@@ -74,6 +76,7 @@ pub fn compare_netlists<S: Solver, T: Tell>(
 {
     let one = read_first(alloc, formats.first, first)?;
     let other = read_second(alloc, formats.second, second)?;
+    check_sections(alloc, formats, first, second)?;
     let compared = compare_circuits::<S, T>(alloc, &one, &other, conflicts, tell)?;
     let no_sink = lacks_sinks(&one);
     Ok(ComparedTwo { compared, no_sink })

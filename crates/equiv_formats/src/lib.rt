@@ -18,8 +18,10 @@
 
 mod comparing;
 mod laws;
+mod sections;
 
 pub use comparing::compare_netlists;
 pub use equiv_run::{CompareError, Compared, ComparedTwo, EquivOutcome};
 pub use format_names::{FormatPair, NetFormat};
 pub use laws::netlists_have_an_answer_or_a_fault;
+pub use sections::check_sections;

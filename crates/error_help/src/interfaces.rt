@@ -3,7 +3,7 @@
 use crate::expected::Subject;
 use crate::explaining::{Input, Inputs, push_place};
 use crate::naming::{Latch, List, Named, is_same_name, kind_of, plain_name, push_named, word_of};
-use crate::other_names::{aiger_names, bench_names};
+use crate::other_names::{aiger_names, bench_names, same_sections};
 use crate::tokens::{goes_on, without_comment};
 use help_text::{Part, push_parts, push_quoted};
 use std::alloc::{AllocError, Global};
@@ -233,6 +233,24 @@ fn push_list(
     Ok(true)
 }
 
+/// Appends that two netlists in AIGER have other sections, and returns whether they do.
+fn push_sections(
+    text: &mut Vec<u8>,
+    first: &[u8],
+    second: &[u8],
+    inputs: &Inputs,
+) -> Result<bool, AllocError> {
+    let are_aiger = matches!(inputs.first_format, Subject::Aiger)
+        && matches!(inputs.second_format, Subject::Aiger);
+    if !are_aiger || same_sections(first, second) {
+        return Ok(false);
+    }
+    push_place(text, inputs.second, 1)?;
+    text.extend_from_slice(b"other numbers of outputs, bad states and constraints than in ")?;
+    push_other(text, inputs.second, inputs.first)?;
+    Ok(true)
+}
+
 /// Appends the first name of the interfaces of two netlists that differs, and how, and returns whether there is one.
 pub(crate) fn push_difference(text: &mut Vec<u8>, inputs: &Inputs) -> Result<bool, AllocError> {
     let (Some(first), Some(second)) = (inputs.first.bytes, inputs.second.bytes) else {
@@ -242,6 +260,7 @@ pub(crate) fn push_difference(text: &mut Vec<u8>, inputs: &Inputs) -> Result<boo
         push_list(text, List::Inputs, first, second, inputs)?
             || push_list(text, List::Outputs, first, second, inputs)?
             || push_list(text, List::Clocks, first, second, inputs)?
-            || push_list(text, List::Latches, first, second, inputs)?,
+            || push_list(text, List::Latches, first, second, inputs)?
+            || push_sections(text, first, second, inputs)?,
     )
 }

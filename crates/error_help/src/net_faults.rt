@@ -135,7 +135,7 @@ pub(crate) const AIGERS: &[Entry] = &[
         name: b"NotSupported",
         place: Place::Line,
         says: &[Part::Text(
-            b"counts within the limits, no properties, and no name that begins with `&`",
+            b"counts within the limits, no justice or fairness property, and no name that begins with `&`",
         )],
     },
 ];

@@ -62,6 +62,15 @@ struct Header {
     latches: u32,
     outputs: u32,
     gates: u32,
+    bads: u32,
+    constraints: u32,
+}
+
+/// How many outputs there are with the bad states and constraints, which follow them.
+fn all_outputs(h: Header) -> u32 {
+    h.outputs
+        .saturating_add(h.bads)
+        .saturating_add(h.constraints)
 }
 
 /// The number that comes next, and the rest; 0 if there is none.
@@ -81,13 +90,17 @@ fn header_of(text: &[u8]) -> Header {
     let (inputs, rest) = count_of(rest);
     let (latches, rest) = count_of(rest);
     let (outputs, rest) = count_of(rest);
-    let (gates, _) = count_of(rest);
+    let (gates, rest) = count_of(rest);
+    let (bads, rest) = count_of(rest);
+    let (constraints, _) = count_of(rest);
     Header {
         is_binary: word == b"aig".as_slice(),
         inputs,
         latches,
         outputs,
         gates,
+        bads,
+        constraints,
     }
 }
 
@@ -122,7 +135,7 @@ fn after_gates(bytes: &[u8], gates: u32) -> &[u8] {
 
 /// The lines of a text that name its inputs, latches and outputs, and what comes after them.
 fn symbols_of(text: &[u8], h: Header) -> &[u8] {
-    let listed = h.latches.saturating_add(h.outputs).saturating_add(1);
+    let listed = h.latches.saturating_add(all_outputs(h)).saturating_add(1);
     if h.is_binary {
         return after_gates(after_lines(text, listed), h.gates);
     }
@@ -130,14 +143,26 @@ fn symbols_of(text: &[u8], h: Header) -> &[u8] {
     after_lines(text, all)
 }
 
+/// The first place in a list that symbols with a letter name; None if they name none of it.
+fn first_of(list: List, h: Header, letter: u8) -> Option<u32> {
+    if letter == letter_of(list) {
+        return Some(0);
+    }
+    match (list, letter) {
+        (List::Outputs, b'b') => Some(h.outputs),
+        (List::Outputs, b'c') => Some(h.outputs.saturating_add(h.bads)),
+        _ => None,
+    }
+}
+
 /// Sets the name that a line gives to one of some.
-fn put_symbol<'a>(names: &mut Vec<Named<'a>>, list: List, line: &'a [u8]) {
+fn put_symbol<'a>(names: &mut Vec<Named<'a>>, list: List, h: Header, line: &'a [u8]) {
     let Some((letter, rest)) = line.split_first() else {
         return;
     };
-    if *letter != letter_of(list) {
+    let Some(first) = first_of(list, h, *letter) else {
         return;
-    }
+    };
     let (word, after) = word_of(rest);
     let Some(number) = number_up_to(MOST_NAMES, word) else {
         return;
@@ -145,14 +170,14 @@ fn put_symbol<'a>(names: &mut Vec<Named<'a>>, list: List, line: &'a [u8]) {
     let Some((_, name)) = after.split_first() else {
         return;
     };
-    if let Some(place) = names.get_mut(number as usize) {
+    if let Some(place) = names.get_mut(first.saturating_add(number) as usize) {
         place.name = name;
         place.number = None;
     }
 }
 
 /// Sets the names that the lines give, up to a comment.
-fn put_symbols<'a>(names: &mut Vec<Named<'a>>, list: List, lines: &'a [u8]) {
+fn put_symbols<'a>(names: &mut Vec<Named<'a>>, list: List, h: Header, lines: &'a [u8]) {
     let mut left = lines;
     for _ in 0..lines.len() {
         let Some((line, _, rest)) = next_line(left) else {
@@ -161,7 +186,7 @@ fn put_symbols<'a>(names: &mut Vec<Named<'a>>, list: List, lines: &'a [u8]) {
         if line == b"c".as_slice() {
             break;
         }
-        put_symbol(names, list, line);
+        put_symbol(names, list, h, line);
         left = rest;
     }
 }
@@ -173,7 +198,7 @@ fn range_of(list: List, h: Header) -> (u32, u32) {
         List::Latches => (h.inputs.saturating_add(2), h.latches),
         List::Outputs => (
             h.inputs.saturating_add(h.latches).saturating_add(2),
-            h.outputs,
+            all_outputs(h),
         ),
         List::Clocks => (0, 0),
     }
@@ -200,6 +225,13 @@ pub(crate) fn aiger_names(
             latch: None,
         })?;
     }
-    put_symbols(&mut names, list, symbols_of(text, header));
+    put_symbols(&mut names, list, header, symbols_of(text, header));
     Ok(names)
+}
+
+/// Whether two texts in AIGER have as many outputs, bad states and constraints.
+pub(crate) fn same_sections(first: &[u8], second: &[u8]) -> bool {
+    let one = header_of(first);
+    let other = header_of(second);
+    one.outputs == other.outputs && one.bads == other.bads && one.constraints == other.constraints
 }

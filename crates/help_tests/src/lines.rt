@@ -279,6 +279,44 @@ fn a_line_speaks_of_both_halves(rt: HostRuntime) {
     }
 }
 
+/// Whether this is the line after two texts in AIGER of different interfaces.
+fn is_of_aigers(alloc: Global, first: &str, second: &str, wanted: &str) -> bool {
+    let inputs = Inputs {
+        first: Input::of(b"a", Some(first.as_bytes())),
+        second: Input::of(b"b", Some(second.as_bytes())),
+        first_format: Subject::Aiger,
+        second_format: Subject::Aiger,
+    };
+    is_line(
+        alloc,
+        Subject::Pair,
+        "error: DifferentInterface",
+        &inputs,
+        wanted,
+    )
+}
+
+/// Two texts, and the line.
+const AIGERS: &[(&str, &str, &str)] = &[
+    (
+        "aag 1 1 0 0 0 1\n2\n2\nb0 p\n",
+        "aag 1 1 0 0 0 1\n2\n2\nb0 q\n",
+        "a:3: p: b has no output of this name\n",
+    ),
+    (
+        "aag 1 1 0 0 0 1\n2\n2\nb0 p\n",
+        "aag 1 1 0 1 0\n2\n2\no0 p\n",
+        "b:1: other numbers of outputs, bad states and constraints than in a\n",
+    ),
+];
+
+#[test]
+fn a_line_speaks_of_sections(rt: HostRuntime) {
+    for &(first, second, wanted) in AIGERS {
+        assert!(rt; is_of_aigers(rt.alloc(), first, second, wanted), "{wanted}");
+    }
+}
+
 /// Whether the line after a text that is too long names the limit that was asked for.
 fn is_of_limit(alloc: Global) -> bool {
     let mut input = Input::of(b"a", None);

@@ -167,7 +167,8 @@ The ASCII form of AIGER 1.9, read and written by improve --format aiger, and whe
 read ends with .aag or .aig; equiv reads it too. A literal is twice a variable, and one more for its complement;
 0 and 1 are the constants. The binary form, which begins with `aig`, is read in the same places, and improve
 writes the form that it read, or as the name of -o ends; an error has the line of the ASCII form, which
-`aigtoaig` makes.
+`aigtoaig` makes. Two counts more, B and C, say how many bad states and constraints follow the outputs, with
+names as b0 and c0: they are outputs too, and improve writes each of them as what it was.
 
   aag 3 2 0 1 1
   2

@@ -20,7 +20,7 @@ use Rattle.aiger_text.specs.Naming.{numbered_from, is_kind, with_symbols, output
 use Rattle.aiger_text.specs.Meaning.{signals_of, latch_line, document_of, listed_with, listed}
 use Rattle.aiger_text.specs.Statements.{file_of}
 use Rattle.aiger_core.specs.Aiger.{listed_of}
-use Rattle.aiger_binary.specs.Ascii.{ascii_in}
+use Rattle.aiger_sections.specs.Plain.{plain_in}
 use Rattle.aiger_forms.specs.Forms.{aiger_forms}
 use Rattle.net_formats.specs.Few.{IsFew}
 
@@ -34,7 +34,7 @@ list_is P (Err x) l is e = absurd cc
 
 pub aiger_lists : ListsWell aiger_forms
 aiger_lists bytes l e =
-    list_is IsWellListed (file_of (ascii_in bytes)) l (λ f is. listed_is f (file_is (ascii_in bytes) f is)) e
+    list_is IsWellListed (file_of (plain_in bytes)) l (λ f is. listed_is f (file_is (plain_in bytes) f is)) e
 
 -- ---- outputs
 
@@ -80,6 +80,6 @@ file_few : (f : AigFile) → IsAig f → IsFew (listed f).document
 unfolding listed_with
 file_few f is = record { sources = omega (arith, sources_few f is); outputs = omega (arith, outputs_few f is) }
 
-pub aiger_few : (bytes : List ℕ) (l : Listed) → listed_of (ascii_in bytes) ≡ Ok l → IsFew l.document
+pub aiger_few : (bytes : List ℕ) (l : Listed) → listed_of (plain_in bytes) ≡ Ok l → IsFew l.document
 aiger_few bytes l e =
-    list_is (λ (x : Listed). IsFew x.document) (file_of (ascii_in bytes)) l (λ f is. file_few f (file_is (ascii_in bytes) f is)) e
+    list_is (λ (x : Listed). IsFew x.document) (file_of (plain_in bytes)) l (λ f is. file_few f (file_is (plain_in bytes) f is)) e

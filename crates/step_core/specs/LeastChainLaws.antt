@@ -71,7 +71,7 @@ are_met w basis steps solution = record {
 
 -- ---- the chain of a solution
 
-made_outs : (w : Words) (steps : List Step) (outs : List Out) → AreOuts w steps outs → All (NamesPlace (w.n + length steps)) outs
+pub made_outs : (w : Words) (steps : List Step) (outs : List Out) → AreOuts w steps outs → All (NamesPlace (w.n + length steps)) outs
 made_outs w steps outs are = λ i d low.
     let own : i + 1 - 1 ≡ i = omega arith in
     subst (NamesPlace (w.n + length steps)) (ap (λ (x : ℕ). slice_index_or outs x kinds.Zero) own ∙ same_default outs i kinds.Zero d low) (are.each (i + 1) (omega arith) (omega (arith, low))).names

@@ -7,6 +7,7 @@ pub mod Rules
 pub mod Outs
 pub mod Pruning
 pub mod Waits
+pub mod Reads
 pub mod LoopLaws
 pub mod WordLaws
 pub mod StackLaws
@@ -17,3 +18,11 @@ pub mod PruningLaws
 pub mod NormalFormLaws
 pub mod WaitLaws
 pub mod LeastChainLaws
+pub mod FreshLaws
+pub mod ReadCountLaws
+pub mod DeterminedLaws
+pub mod MaskLaws
+pub mod ClashLaws
+pub mod RefutingLaws
+pub mod LiveChainLaws
+pub mod RefutedLaws

@@ -29,11 +29,11 @@ index_middle : {X : Type 0} (xs : List X) (x : X) (ys : List X) (d : X) → slic
 index_middle [] x ys d = refl
 index_middle (y ∷ xs) x ys d = index_middle xs x ys d
 
-middle_low : {X : Type 0} (xs : List X) (x : X) (ys : List X) → length xs < length (xs ++ x ∷ ys)
+pub middle_low : {X : Type 0} (xs : List X) (x : X) (ys : List X) → length xs < length (xs ++ x ∷ ys)
 middle_low [] x ys = omega arith
 middle_low (y ∷ xs) x ys = omega (arith, middle_low xs x ys)
 
-member_among : (prefix rest : List Step) (s : Step) (basis : Basis) → AreOver basis (prefix ++ s ∷ rest) → basis s.op ≡ true
+pub member_among : (prefix rest : List Step) (s : Step) (basis : Basis) → AreOver basis (prefix ++ s ∷ rest) → basis s.op ≡ true
 member_among prefix rest s basis over = ap (λ (x : Step). basis x.op) (sym (index_middle prefix s rest s)) ∙ over (length prefix) s (middle_low prefix s rest)
 
 -- ---- outcomes
@@ -86,7 +86,7 @@ all_placed w basis whole left t new found stack enumerating none same meets_all 
 
 -- ---- one step more
 
-step_among : (prefix rest : List Step) (s : Step) (n : ℕ) → AreSteps n (prefix ++ s ∷ rest) → IsStepAt (n + 1 + length prefix) s
+pub step_among : (prefix rest : List Step) (s : Step) (n : ℕ) → AreSteps n (prefix ++ s ∷ rest) → IsStepAt (n + 1 + length prefix) s
 step_among prefix rest s n are = are.each (length prefix) s (get_middle prefix s rest)
 
 -- a further step has some larger operand
@@ -123,7 +123,7 @@ by_order w basis t left low high rising falling = record {
 }
 
 -- and some operator, which is a member
-this_step : (s : Step) (j k op : ℕ) → s.j ≡ j → s.k ≡ k → s.op ≡ op → s ≡ record { j = j; k = k; op = op }
+pub this_step : (s : Step) (j k op : ℕ) → s.j ≡ j → s.k ≡ k → s.op ≡ op → s ≡ record { j = j; k = k; op = op }
 this_step s j k op is_j is_k is_op = rw (sym is_j, sym is_k, sym is_op) refl
 
 pub by_operator : (w : Words) (basis : Basis) (t : StackView) (left j k : ℕ) →

@@ -22,7 +22,7 @@ use Rattle.step_core.specs.NormalSolutionLaws.{met_at}
 use Rattle.step_core.specs.OutcomeLaws.{append_nil, append_one}
 use Rattle.step_core.specs.WordLaws.{zero_is}
 
-not_true : (b : Bool) → not b ≡ true → b ≡ false
+pub not_true : (b : Bool) → not b ≡ true → b ≡ false
 not_true true e = absurd cc
 not_true false e = refl
 
@@ -73,7 +73,7 @@ both_alike w word i b has_i has_b =
 
 -- ---- one step more
 
-met_some : (w : Words) (steps : List Step) (i : ℕ) → is_met w steps i ≡ true → (k : ℕ) × (k < length steps) × (meets_at w steps i k ≡ true)
+pub met_some : (w : Words) (steps : List Step) (i : ℕ) → is_met w steps i ≡ true → (k : ℕ) × (k < length steps) × (meets_at w steps i k ≡ true)
 unfolding is_met
 met_some w steps i e = some_passes (meets_at w steps i) (length steps) e
 
@@ -92,7 +92,7 @@ gives_none w prefix word i none low missing has =
     true_false (sym gives_it ∙ none_passes (gives w prefix word) (length w.on) i none low)
 
 -- an output that is met only with the last step has that step's values
-newly_met : (w : Words) (prefix : List Step) (s : Step) (i : ℕ) → is_met w prefix i ≡ false →
+pub newly_met : (w : Words) (prefix : List Step) (s : Step) (i : ℕ) → is_met w prefix i ≡ false →
     is_met w (prefix ++ s ∷ []) i ≡ true → misses w (word_in w.n (prefix ++ s ∷ []) (w.n + 1 + length prefix)) i ≡ false
 newly_met w prefix s i before after =
     let found = met_some w (prefix ++ s ∷ []) i after in

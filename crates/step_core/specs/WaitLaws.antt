@@ -17,7 +17,7 @@ use Rattle.bound_core.specs.Support.{IsInSupport}
 use Rattle.bound_core.specs.Needed.{opposite_met}
 use Rattle.step_core.specs.Steps.{IsSolution, misses, meets_at, is_met, is_missing, all_met, word_in}
 use Rattle.step_core.specs.Pruning.{meets_some}
-use Rattle.step_core.specs.Waits.{reads_at, is_read, has_in_support, is_in_some_support, is_needed, waits, waiting}
+use Rattle.step_core.specs.Waits.{is_at, has_read, is_later, reads_at, is_read, has_in_support, is_in_some_support, is_needed, waits, waiting}
 use Rattle.step_core.specs.Enumeration.{IsNormalSolution, NoneFrom, NoneWith, HasPair}
 use Rattle.step_core.specs.LoopLaws.{none_passes, count_split, count_zero, count_one}
 use Rattle.step_core.specs.StackLaws.{word_prefix}
@@ -26,33 +26,20 @@ use Rattle.step_core.specs.NormalFormLaws.{out_meets}
 
 -- ---- places that are read
 
--- a place i + 1 is the given one
-unfoldable is_at : ℕ → ℕ → Bool
-is_at p i = i + 1 == p
-
--- a step reads the place i + 1
-unfoldable has_read : Step → ℕ → Bool
-has_read s i = is_at s.j i || is_at s.k i
-
--- some step of a list reads the place i + 1
-unfoldable is_later : List Step → ℕ → Bool
-is_later [] i = false
-is_later (s ∷ ss) i = has_read s i || is_later ss i
-
-at_is : (p i : ℕ) → i + 1 ≡ p → is_at p i ≡ true
+pub at_is : (p i : ℕ) → i + 1 ≡ p → is_at p i ≡ true
 unfolding is_at
 at_is p i e = eq-eqb (i + 1) p e
 
-is_at_is : (p i : ℕ) → is_at p i ≡ true → i + 1 ≡ p
+pub is_at_is : (p i : ℕ) → is_at p i ≡ true → i + 1 ≡ p
 unfolding is_at
 is_at_is p i e = eqb-true (i + 1) p e
 
-reads_has : (s : Step) (i p : ℕ) → p ≡ i + 1 → Reads s p → has_read s i ≡ true
+pub reads_has : (s : Step) (i p : ℕ) → p ≡ i + 1 → Reads s p → has_read s i ≡ true
 unfolding has_read
 reads_has s i p e (inl first) = or_left (is_at s.j i) (is_at s.k i) (at_is s.j i (sym (first ∙ e)))
 reads_has s i p e (inr second) = or_right (is_at s.j i) (is_at s.k i) (at_is s.k i (sym (second ∙ e)))
 
-later_has : (rest : List Step) (i p k : ℕ) (s : Step) → p ≡ i + 1 → slice_get rest k ≡ Some s → Reads s p → is_later rest i ≡ true
+pub later_has : (rest : List Step) (i p k : ℕ) (s : Step) → p ≡ i + 1 → slice_get rest k ≡ Some s → Reads s p → is_later rest i ≡ true
 unfolding is_later
 later_has [] i p k s e at reads = absurd cc
 later_has (x ∷ rest) i p zero s e at reads =
@@ -61,7 +48,7 @@ later_has (x ∷ rest) i p zero s e at reads =
 later_has (x ∷ rest) i p (suc k) s e at reads = or_right (has_read x i) (is_later rest i) (later_has rest i p k s e at reads)
 
 -- a step of two lists one after the other is in one of them
-either_get : (prefix rest : List Step) (i : ℕ) (s : Step) → slice_get (prefix ++ rest) i ≡ Some s → ((i < length prefix) × (slice_get prefix i ≡ Some s)) ⊎ ((k : ℕ) × (slice_get rest k ≡ Some s))
+pub either_get : (prefix rest : List Step) (i : ℕ) (s : Step) → slice_get (prefix ++ rest) i ≡ Some s → ((i < length prefix) × (slice_get prefix i ≡ Some s)) ⊎ ((k : ℕ) × (slice_get rest k ≡ Some s))
 either_get [] rest i s at = inr (i, at)
 either_get (x ∷ prefix) rest zero s at = inl (omega arith, at)
 either_get (x ∷ prefix) rest (suc i) s at = elim (either_get prefix rest i s at) [
@@ -108,7 +95,7 @@ same_value n t u j steps are low alone unread p from to =
     p (omega (arith, from)) to
     ∙ other_has (values_on n u steps) j p (input n t j) (λ e. omega (arith, e, low, from))
 
-met_place : (w : Words) (basis : Basis) (steps : List Step) (i : ℕ) → IsSolution w basis steps → i < length w.on → (k : ℕ) × (k < length steps) × (misses w (word_in w.n steps (w.n + 1 + k)) i ≡ false)
+pub met_place : (w : Words) (basis : Basis) (steps : List Step) (i : ℕ) → IsSolution w basis steps → i < length w.on → (k : ℕ) × (k < length steps) × (misses w (word_in w.n steps (w.n + 1 + k)) i ≡ false)
 unfolding all_met is_missing is_met meets_at
 met_place w basis steps i solution low =
     let missing : not (is_met w steps i) ≡ false = none_passes (is_missing w steps) (length w.on) i (not-true (some_below (is_missing w steps) (length w.on)) solution.met) low in
@@ -205,7 +192,7 @@ at_once : (p i j : ℕ) → i < j → is_at p i ≡ true → is_at p j ≡ true 
 at_once p i j less first second = omega (arith, less, is_at_is p i first, is_at_is p j second)
 
 -- a step reads two places at most
-two_read : (s : Step) (k : ℕ) → count_below (has_read s) k ≤ 2
+pub two_read : (s : Step) (k : ℕ) → count_below (has_read s) k ≤ 2
 unfolding has_read
 two_read s k = omega (
   arith,

@@ -1,12 +1,25 @@
 -- Places that wait to be read. In a chain in normal form each step is an out or is read, and each input in the
 -- support of an output is read.
-use Rattle.std.specs.Prelude.{ℕ, ◌+◌, Bool, ◌==◌, ◌&&◌, ◌||◌, not, List, length, nat_lt, if◌then◌else◌}
+use Rattle.std.specs.Prelude.{ℕ, ◌+◌, Bool, false, ◌==◌, ◌&&◌, ◌||◌, not, List, [], ◌∷◌, length, nat_lt, if◌then◌else◌}
 use Rattle.chain_theory.specs.Chain.{Step}
 use Rattle.chain_laws.specs.Follow.{step_at}
 use Rattle.tt_core.specs.Words.{Words, specification}
 use Rattle.bound_core.specs.Counts.{some_below, count_below, uses}
 use Rattle.step_core.specs.Steps.{word_in}
 use Rattle.step_core.specs.Pruning.{meets_some}
+
+-- a place i + 1 is the given one
+unfoldable pub is_at : ℕ → ℕ → Bool
+is_at p i = i + 1 == p
+
+-- the step reads the place i + 1
+unfoldable pub has_read : Step → ℕ → Bool
+has_read s i = is_at s.j i || is_at s.k i
+
+-- some step of the list reads the place i + 1
+unfoldable pub is_later : List Step → ℕ → Bool
+is_later [] i = false
+is_later (s ∷ ss) i = has_read s i || is_later ss i
 
 -- the step of an index reads the place
 unfoldable pub reads_at : List Step → ℕ → ℕ → Bool

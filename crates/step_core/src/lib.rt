@@ -27,10 +27,14 @@
 //! ```
 #![tactic(auto)]
 
+mod determined;
 mod enumerate;
 mod least_chains;
+mod masks;
 mod outs;
 mod pruning;
+mod refuted;
+mod refuting;
 mod rules;
 mod stack;
 mod waits;
@@ -39,4 +43,5 @@ mod words;
 pub use chain_core::Chain;
 pub use least_chains::{least_chain, nth_chain};
 pub use op_basis::Basis;
+pub use refuted::refutes;
 pub use tt_core::Spec;

@@ -16,4 +16,4 @@ returns-in-Ok-formed g c =
     c.in-Ok-formed.answer.report.items _ c.requires.length c.requires.said
     (subst (λ (r : List ℕ). IsReported aiger_forms c.args.settings.now c.args.bytes.now c.in-Ok.improved.text.items r)
     (sym c.in-Ok-formed.ensures.report) c.in-Ok.ensures.improved)
-    c.in-Ok-formed.ensures.text c.in-Ok-formed.ensures.same c.reply_of.ensures
+    c.in-Ok-formed.ensures.text c.in-Ok-formed.ensures.sections c.in-Ok-formed.ensures.form c.reply_of.ensures

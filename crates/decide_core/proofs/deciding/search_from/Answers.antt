@@ -13,5 +13,8 @@ loop-size-preserved g c =
     let few : c.loop-size.size ≤ c.args.question.header.now.max = omega (arith, c.loop-size-test.true) in
     size_refuted h c.loop-size.size c.in-Logged.section c.args.question.checked few sized.0 (sym c.is_open.ensures ∙ c.if-is_open.false) c.loop-size.invariant
 
+pub loop-size-preserved-then-branch : goal.loop-size-preserved-then-branch
+loop-size-preserved-then-branch g c = c.in_ok-is_refuted.ensures c.if-branch.true c.loop-size.invariant
+
 pub returns : goal.returns
 returns g c = λ q low has. c.loop-size.invariant q (omega (arith, low, c.loop-size-test.false)) has

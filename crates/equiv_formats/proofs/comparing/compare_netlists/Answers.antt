@@ -1,6 +1,6 @@
 use Rattle.equiv_formats.specs.Comparison.{first_format}
 use Rattle.equiv_formats.specs.SmallLaws.{small_circuit}
-use Rattle.equiv_formats.specs.ComparisonLaws.{formats_answer, says_no_sink, first_passed, second_passed, other_passed}
+use Rattle.equiv_formats.specs.ComparisonLaws.{formats_answer, says_no_sink, first_passed, second_passed, sections_passed, other_passed}
 use Rattle.equiv_formats.proofs.comparing.compare_netlists.Goals as goal
 
 pub compare_circuits-requires-clause-small : goal.compare_circuits-requires-clause-small
@@ -14,7 +14,8 @@ compare_circuits-requires-clause-other g c =
 pub returns-clause-answer : goal.returns-clause-answer
 returns-clause-answer g c =
     formats_answer c.args.formats c.args.conflicts c.args.first.now c.args.second.now c.in_ok-one.one c.in_ok-other.other _ _
-    c.in_ok-one.ensures.circuit c.in_ok-other.ensures.circuit c.in_ok-compared.ensures.reported
+    c.in_ok-one.ensures.circuit c.in_ok-other.ensures.circuit c.in_ok-check_sections.ensures.shared
+    c.in_ok-compared.ensures.reported
 
 pub returns-clause-no_sink : goal.returns-clause-no_sink
 returns-clause-no_sink g c =
@@ -30,6 +31,12 @@ pub returns-in_err-other-clause-refused : goal.returns-in_err-other-clause-refus
 returns-in_err-other-clause-refused g c =
     second_passed c.args.formats c.args.first.now c.args.second.now c.in_ok-one.one _ c.in_err-other.field-0.0
     c.from_residual-in_err-other.ensures.1 c.in_ok-one.ensures.circuit c.in_err-other.ensures.refused
+
+pub returns-in_err-check_sections-clause-refused : goal.returns-in_err-check_sections-clause-refused
+returns-in_err-check_sections-clause-refused g c =
+    sections_passed c.args.formats c.args.first.now c.args.second.now c.in_ok-one.one c.in_ok-other.other _
+    c.in_err-check_sections.field-0.0 c.from_residual-in_err-check_sections.ensures.1 c.in_ok-one.ensures.circuit
+    c.in_ok-other.ensures.circuit c.in_err-check_sections.ensures.refused
 
 pub returns-in_err-compared-clause-refused : goal.returns-in_err-compared-clause-refused
 returns-in_err-compared-clause-refused g c =
