@@ -277,7 +277,7 @@ const IMPROVE: &[Row] = &[
         value: b"yes or no",
         allowed: YES_OR_NO,
         default: Default::Word(b"no"),
-        says: b"of BLIF and BENCH: all gates are over --basis; others are first made of gates over it",
+        says: b"of BLIF and BENCH: all gates are over --basis; first each gate of another operator becomes gates over it",
     },
     Row {
         name: b"--levels",
