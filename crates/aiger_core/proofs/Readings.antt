@@ -9,7 +9,7 @@ use Rattle.net_core.specs.declared.error.NetError.{NetError}
 use Rattle.net_core.specs.declared.error.NetError.TheVariants.{Memory}
 use Rattle.net_document.specs.Listed.{Listed, IsWellListed}
 use Rattle.net_document.specs.Refusals.{fault_of, IsRefusedListing}
-use Rattle.net_document.specs.Format.{IsNetlist, IsCircuitOfText, IsRefusedText, ListsWell}
+use Rattle.net_document.specs.Format.{up_to, IsNetlist, IsCircuitOfText, IsRefusedText, ListsWell}
 use Rattle.net_document.specs.FormatLaws.{refused_memory}
 use Rattle.aiger_text.specs.File.{AigFile}
 use Rattle.aiger_text.specs.Valid.{IsAig}
@@ -43,27 +43,29 @@ pub ruleset listings = (common_steps, listed_ok, listed_err)
 
 -- ---- errors
 
-pub line_refused : (bytes : List ℕ) (e : NetError) → Fails e (listed_of bytes) → IsRefusedText aiger_format bytes e
-line_refused bytes Memory h = tt
-line_refused bytes e h = inl h
+pub line_refused : (most : ℕ) (bytes : List ℕ) (e : NetError) → Fails e (listed_of bytes) → IsRefusedText (up_to most aiger_format) bytes e
+line_refused most bytes Memory h = tt
+line_refused most bytes e h = inl h
 
-pub document_refused : (bytes : List ℕ) (l : Listed) (e : NetError) → listed_of bytes ≡ Ok l → IsRefusedListing l e → IsRefusedText aiger_format bytes e
-document_refused bytes l Memory said h = tt
-document_refused bytes l e said h = inr (l, said, h)
+pub document_refused : (most : ℕ) (bytes : List ℕ) (l : Listed) (e : NetError) → listed_of bytes ≡ Ok l →
+    IsRefusedListing most l e → IsRefusedText (up_to most aiger_format) bytes e
+document_refused most bytes l Memory said h = tt
+document_refused most bytes l e said h = inr (l, said, h)
 
-pub text_circuit : (bytes : List ℕ) (l : Listed) (c : Circuit) → listed_of bytes ≡ Ok l → fault_of l ≡ None → IsWellFormed l.document → IsCircuitOf l.document c → IsCircuitOfText aiger_format bytes c
-text_circuit bytes l c said good well circuit = record { listed = l; said = said; good = good; well = well; circuit = circuit }
+pub text_circuit : (most : ℕ) (bytes : List ℕ) (l : Listed) (c : Circuit) → listed_of bytes ≡ Ok l → fault_of most l ≡ None →
+    IsWellFormed l.document → IsCircuitOf l.document c → IsCircuitOfText (up_to most aiger_format) bytes c
+text_circuit most bytes l c said good well circuit = record { listed = l; said = said; good = good; well = well; circuit = circuit }
 
 -- so the only error of a netlist is out of memory, in both stages
-pub line_memory : {A : Type 0} (bytes : List ℕ) (r : Result A NetError) (e : NetError) → IsErrAnd r (λ d. d ≡ e) →
-    Fails e (listed_of bytes) → IfErr r (λ d. IsNetlist aiger_format bytes → d ≡ Memory)
-line_memory bytes (Ok x) e is h = absurd is
-line_memory bytes (Err d) e is h = λ netlist. is ∙ refused_memory aiger_format bytes e lists_well netlist (line_refused bytes e h)
+pub line_memory : {A : Type 0} (most : ℕ) (bytes : List ℕ) (r : Result A NetError) (e : NetError) → IsErrAnd r (λ d. d ≡ e) →
+    Fails e (listed_of bytes) → IfErr r (λ d. IsNetlist (up_to most aiger_format) bytes → d ≡ Memory)
+line_memory most bytes (Ok x) e is h = absurd is
+line_memory most bytes (Err d) e is h = λ netlist. is ∙ refused_memory (up_to most aiger_format) bytes e lists_well netlist (line_refused most bytes e h)
 
-pub document_memory : {A : Type 0} (bytes : List ℕ) (l : Listed) (r : Result A NetError) (e : NetError) →
-    IsErrAnd r (λ d. d ≡ e) → listed_of bytes ≡ Ok l → IsRefusedListing l e →
-    IfErr r (λ d. IsNetlist aiger_format bytes → d ≡ Memory)
-document_memory bytes l (Ok x) e is said h = absurd is
-document_memory bytes l (Err d) e is said h = λ netlist. is ∙ refused_memory aiger_format bytes e lists_well netlist (document_refused bytes l e said h)
+pub document_memory : {A : Type 0} (most : ℕ) (bytes : List ℕ) (l : Listed) (r : Result A NetError) (e : NetError) →
+    IsErrAnd r (λ d. d ≡ e) → listed_of bytes ≡ Ok l → IsRefusedListing most l e →
+    IfErr r (λ d. IsNetlist (up_to most aiger_format) bytes → d ≡ Memory)
+document_memory most bytes l (Ok x) e is said h = absurd is
+document_memory most bytes l (Err d) e is said h = λ netlist. is ∙ refused_memory (up_to most aiger_format) bytes e lists_well netlist (document_refused most bytes l e said h)
 
 pub ruleset refusals = (common_steps, line_refused, document_refused, text_circuit)

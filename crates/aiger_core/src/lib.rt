@@ -12,4 +12,4 @@
 mod reading;
 
 pub use net_core::{Circuit, NetError};
-pub use reading::read_aiger;
+pub use reading::{read_aiger, read_aiger_up_to};

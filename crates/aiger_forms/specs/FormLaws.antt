@@ -7,7 +7,7 @@ use Rattle.net_theory.specs.Circuit.{Circuit}
 use Rattle.net_core.specs.declared.error.NetError.{NetError}
 use Rattle.net_core.specs.declared.error.NetError.TheVariants.{Memory}
 use Rattle.net_document.specs.Listed.{Listed}
-use Rattle.net_document.specs.Format.{IsNetlist, IsCircuitOfText, IsRefusedText, IsTextOf, ListsWell, IsFormat}
+use Rattle.net_document.specs.Format.{up_to, IsNetlist, IsCircuitOfText, IsRefusedText, IsTextOf, ListsWell, IsFormat}
 use Rattle.aiger_text.specs.File.{AigFile}
 use Rattle.aiger_text.specs.Reading.{◌>>=◌}
 use Rattle.aiger_text.specs.Meaning.{listed}
@@ -46,18 +46,22 @@ text_plain c is =
 
 -- ---- texts that are read and refused
 
-pub circuit_is : (bytes : List ℕ) (c : Circuit) → IsCircuitOfText aiger_format (plain_in bytes) c → IsCircuitOfText aiger_forms bytes c
-circuit_is bytes c is = record { listed = is.listed; said = is.said; good = is.good; well = is.well; circuit = is.circuit }
+pub circuit_is : (most : ℕ) (bytes : List ℕ) (c : Circuit) → IsCircuitOfText (up_to most aiger_format) (plain_in bytes) c →
+    IsCircuitOfText (up_to most aiger_forms) bytes c
+circuit_is most bytes c is = record { listed = is.listed; said = is.said; good = is.good; well = is.well; circuit = is.circuit }
 
-circuit_of : (bytes : List ℕ) (c : Circuit) → IsCircuitOfText aiger_forms bytes c → IsCircuitOfText aiger_format (plain_in bytes) c
-circuit_of bytes c is = record { listed = is.listed; said = is.said; good = is.good; well = is.well; circuit = is.circuit }
+circuit_of : (most : ℕ) (bytes : List ℕ) (c : Circuit) → IsCircuitOfText (up_to most aiger_forms) bytes c →
+    IsCircuitOfText (up_to most aiger_format) (plain_in bytes) c
+circuit_of most bytes c is = record { listed = is.listed; said = is.said; good = is.good; well = is.well; circuit = is.circuit }
 
-pub netlist_of : (bytes : List ℕ) → IsNetlist aiger_forms bytes → IsNetlist aiger_format (plain_in bytes)
-netlist_of bytes is = record { listed = is.listed; said = is.said; well = is.well }
+pub netlist_of : (most : ℕ) (bytes : List ℕ) → IsNetlist (up_to most aiger_forms) bytes →
+    IsNetlist (up_to most aiger_format) (plain_in bytes)
+netlist_of most bytes is = record { listed = is.listed; said = is.said; within = is.within; well = is.well }
 
-pub refused_is : (bytes : List ℕ) (e : NetError) → IsRefusedText aiger_format (plain_in bytes) e → IsRefusedText aiger_forms bytes e
-refused_is bytes Memory is = tt
-refused_is bytes e is = is
+pub refused_is : (most : ℕ) (bytes : List ℕ) (e : NetError) → IsRefusedText (up_to most aiger_format) (plain_in bytes) e →
+    IsRefusedText (up_to most aiger_forms) bytes e
+refused_is most bytes Memory is = tt
+refused_is most bytes e is = is
 
 -- ---- texts that are written
 
@@ -81,7 +85,7 @@ forms_are_format is = record {
   lists = lists_well is.lists;
   proper = is.proper;
   read_back = λ c can. text_is c (is.read_back c can);
-  kept = λ bytes c of_text room. is.kept (plain_in bytes) c (circuit_of bytes c of_text) room;
+  kept = λ gates bytes c of_text room. is.kept gates (plain_in bytes) c (circuit_of gates bytes c of_text) room;
   exchanged = is.exchanged;
 }
 

@@ -14,4 +14,4 @@ mod reading;
 
 pub use aiger_core::{Circuit, NetError};
 pub use laws::forms_are_a_format;
-pub use reading::read_forms;
+pub use reading::{read_forms, read_forms_up_to};

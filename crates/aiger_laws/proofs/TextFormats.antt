@@ -13,7 +13,7 @@ use Rattle.net_theory.specs.ExchangeLaws.{with_net, exchanged_proper}
 use Rattle.net_core.specs.Names.{HasRoomForNames}
 use Rattle.net_core.specs.declared.error.NetError.{NetError}
 use Rattle.net_document.specs.Listed.{Listed, IsWellListed}
-use Rattle.net_document.specs.Format.{IsCircuitOfText, ListsWell, CanOperate, IsFormat}
+use Rattle.net_document.specs.Format.{IsCircuitOfText, ListsWell, CanOperate, IsFormat, up_to}
 use Rattle.aiger_text.specs.declared.file.AigLatch.{AigLatch}
 use Rattle.aiger_text.specs.declared.file.Reset.{Reset}
 use Rattle.aiger_text.specs.declared.file.Reset.TheVariants.{Zero, One, Undefined}
@@ -96,8 +96,8 @@ meant_is : (f : AigFile) → document_of f ≡ meant f
 unfolding document_of
 meant_is f = refl
 
-kept_is : (bytes : List ℕ) (c : Circuit) → IsCircuitOfText aiger_format bytes c → HasRoomForNames c → CanWriteAiger c
-kept_is bytes c is room =
+kept_is : (gates : ℕ) (bytes : List ℕ) (c : Circuit) → IsCircuitOfText (up_to gates aiger_format) bytes c → HasRoomForNames c → CanWriteAiger c
+kept_is gates bytes c is room =
     let read = list_cases (statements.file_of bytes) is.listed is.said in
     let f = read.0 in
     let same : is.listed.document ≡ meant f = ap (λ (l : Listed). l.document) (sym read.2) ∙ listed_document (document_of f) ∙ meant_is f in

@@ -135,13 +135,15 @@ text_is back c is =
     let aig = written_aig c is in
     let same = document_listed c is in
     let well : IsWellFormed (listed_with (document_of f)).document = subst IsWellFormed (sym same) (circuit_well c is) in
+    let cheap : cost (listed_with (document_of f)).document ≤ length c.net.gates =
+    subst (λ (x : Document). cost x ≤ length c.net.gates) (sym same) (circuit_cost c is) in
     record {
       listed = listed_with (document_of f);
       said = ap list_in (back f aig);
       document = listed_document (document_of f);
-      good = fault_none (listed_with (document_of f)) (listed_is f aig) well;
+      good = fault_none (length c.net.gates) (listed_with (document_of f)) (listed_is f aig) well cheap;
       well = well;
       model = ap (λ (x : Document). x.model) same ∙ sym is.model;
       describes = subst (λ (x : Document). Describes x c) (sym same) (circuit_describes c is);
-      cheap = subst (λ (x : Document). cost x ≤ length c.net.gates) (sym same) (circuit_cost c is);
+      cheap = cheap;
     }

@@ -18,5 +18,5 @@ mod spelling;
 mod writing;
 
 pub use net_core::{Circuit, NetError};
-pub use reading::read_bench;
+pub use reading::{read_bench, read_bench_up_to};
 pub use writing::{first_source, write_bench, write_gates};

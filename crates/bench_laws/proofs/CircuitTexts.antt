@@ -50,15 +50,17 @@ text_by : (c : Circuit) → IsWritable c → IsBenchSpelling (first_source c) (w
 text_by c can spelled good =
     let back = read_back (first_source c) (written c) spelled in
     let well : IsWellFormed back.listed.document = subst IsWellFormed (sym back.document) good.well in
+    let cheap : cost back.listed.document ≤ length c.net.gates =
+    subst (λ (x : Document). cost x ≤ length c.net.gates) (sym back.document) good.cheap in
     record {
       listed = back.listed;
       said = back.said;
       document = back.document;
-      good = fault_none back.listed back.is well;
+      good = fault_none (length c.net.gates) back.listed back.is well cheap;
       well = well;
       model = ap (λ (x : Document). x.model) back.document ∙ written_model c;
       describes = subst (λ (x : Document). Describes x c) (sym back.document) good.describes;
-      cheap = subst (λ (x : Document). cost x ≤ length c.net.gates) (sym back.document) good.cheap;
+      cheap = cheap;
     }
 
 same_gates : (source : Name) (d : Document) → d.tables ≡ [] → as_gates source d ≡ d

@@ -19,7 +19,7 @@ use Rattle.net_theory.specs.GraphLaws.{driver_finds, kept_in, length-graph_of, f
 use Rattle.graph_core.specs.Visit.{has_ended}
 use Rattle.graph_core.specs.VisitLaws.{MayFinishNext, IsTopologicalOrder, order_is}
 use Rattle.net_core.specs.Names.{HasRoomForNames}
-use Rattle.net_document.specs.Format.{IsCircuitOfText, CanOperate, IsFormat}
+use Rattle.net_document.specs.Format.{IsCircuitOfText, CanOperate, IsFormat, up_to}
 use Rattle.blif_core.specs.Blif as blif
 use Rattle.bench_text.specs.SaidLaws.{IsPlainName, IsPlainLatch, IsGateTable}
 use Rattle.bench_text.specs.ListingLaws.{text_fine, texts_list}
@@ -102,8 +102,8 @@ cost_none : (d : Document) → d.tables ≡ [] → cost d ≡ 0
 unfolding cost
 cost_none d e = ap (λ (ts : List Table). sum_by table_cost ts) e
 
-empty_circuit : (bytes : List ℕ) (c : Circuit) (is : IsCircuitOfText bench_format bytes c) → c.net.sources ≡ 0 → (c.net.gates ≡ []) × (c.net.sinks ≡ [])
-empty_circuit bytes c is zero_sources =
+empty_circuit : (gates : ℕ) (bytes : List ℕ) (c : Circuit) (is : IsCircuitOfText (up_to gates bench_format) bytes c) → c.net.sources ≡ 0 → (c.net.gates ≡ []) × (c.net.sinks ≡ [])
+empty_circuit gates bytes c is zero_sources =
     let d = is.listed.document in
     let fine = text_fine bytes is.listed is.said in
     let none : source_names d ≡ [] = list_none (source_names d) (ap (length {A = Name}) (interface_sources d c is.circuit.describes) ∙ sym is.circuit.proper.source_count ∙ zero_sources) in
@@ -121,11 +121,11 @@ gate_words : (gs : List Gate) → All IsGateWord gs → All HasGateWord gs
 gate_words [] all = All-nil HasGateWord
 gate_words (g ∷ gs) all = All-cons HasGateWord g gs (λ p q a b other. All-head IsGateWord g gs all) (gate_words gs (All-tail IsGateWord g gs all))
 
-text_words : (bytes : List ℕ) (c : Circuit) → IsCircuitOfText bench_format bytes c → All IsGateWord c.net.gates
-text_words bytes c is = net_words is.listed.document c.net (text_fine bytes is.listed is.said).tables is.circuit.net
+text_words : (gates : ℕ) (bytes : List ℕ) (c : Circuit) → IsCircuitOfText (up_to gates bench_format) bytes c → All IsGateWord c.net.gates
+text_words gates bytes c is = net_words is.listed.document c.net (text_fine bytes is.listed is.said).tables is.circuit.net
 
-pub text_fits : (bytes : List ℕ) (c : Circuit) → IsCircuitOfText bench_format bytes c → IsBenchCircuit c
-text_fits bytes c is =
+pub text_fits : (gates : ℕ) (bytes : List ℕ) (c : Circuit) → IsCircuitOfText (up_to gates bench_format) bytes c → IsBenchCircuit c
+text_fits gates bytes c is =
     let d = is.listed.document in
     let fine = text_fine bytes is.listed is.said in
     record {
@@ -135,12 +135,12 @@ text_fits bytes c is =
       outputs = subst (All IsPlainName) is.circuit.describes.outputs fine.outputs;
       clocks = sym is.circuit.describes.clocks ∙ fine.clocks;
       latches = subst (All IsPlainState) is.circuit.describes.latches (states_of d.latches fine.latches);
-      operators = gate_words c.net.gates (text_words bytes c is);
-      source = ⊎_elim (λ some. inl some) (λ none. inr (empty_circuit bytes c is none)) (some_or_none c.net.sources);
+      operators = gate_words c.net.gates (text_words gates bytes c is);
+      source = ⊎_elim (λ some. inl some) (λ none. inr (empty_circuit gates bytes c is none)) (some_or_none c.net.sources);
     }
 
-kept_is : (bytes : List ℕ) (c : Circuit) → IsCircuitOfText bench_format bytes c → HasRoomForNames c → CanWriteBench c
-kept_is bytes c is room = record { writable = record { fits = text_fits bytes c is; room = room }; operators = text_words bytes c is }
+kept_is : (gates : ℕ) (bytes : List ℕ) (c : Circuit) → IsCircuitOfText (up_to gates bench_format) bytes c → HasRoomForNames c → CanWriteBench c
+kept_is gates bytes c is room = record { writable = record { fits = text_fits gates bytes c is; room = room }; operators = text_words gates bytes c is }
 
 -- ---- other nets
 

@@ -17,11 +17,11 @@ pub line_refused : (f : Format) (bytes : List ℕ) (e : NetError) → Fails e (f
 line_refused f bytes Memory h = tt
 line_refused f bytes e h = inl h
 
-pub document_refused : (f : Format) (bytes : List ℕ) (l : Listed) (e : NetError) → f.listed bytes ≡ Ok l → IsRefusedListing l e → IsRefusedText f bytes e
+pub document_refused : (f : Format) (bytes : List ℕ) (l : Listed) (e : NetError) → f.listed bytes ≡ Ok l → IsRefusedListing f.most l e → IsRefusedText f bytes e
 document_refused f bytes l Memory said h = tt
 document_refused f bytes l e said h = inr (l, said, h)
 
-pub text_circuit : (f : Format) (bytes : List ℕ) (l : Listed) (c : Circuit) → f.listed bytes ≡ Ok l → fault_of l ≡ None → IsWellFormed l.document → IsCircuitOf l.document c → IsCircuitOfText f bytes c
+pub text_circuit : (f : Format) (bytes : List ℕ) (l : Listed) (c : Circuit) → f.listed bytes ≡ Ok l → fault_of f.most l ≡ None → IsWellFormed l.document → IsCircuitOf l.document c → IsCircuitOfText f bytes c
 text_circuit f bytes l c said good well circuit = record { listed = l; said = said; good = good; well = well; circuit = circuit }
 
 -- so the only error of a netlist is out of memory, in both stages
@@ -31,7 +31,7 @@ line_memory f bytes (Ok x) e lists is h = absurd is
 line_memory f bytes (Err d) e lists is h = λ netlist. is ∙ refused_memory f bytes e lists netlist (line_refused f bytes e h)
 
 pub document_memory : {A : Type 0} (f : Format) (bytes : List ℕ) (l : Listed) (r : Result A NetError) (e : NetError) →
-    ListsWell f → IsErrAnd r (λ d. d ≡ e) → f.listed bytes ≡ Ok l → IsRefusedListing l e →
+    ListsWell f → IsErrAnd r (λ d. d ≡ e) → f.listed bytes ≡ Ok l → IsRefusedListing f.most l e →
     IfErr r (λ d. IsNetlist f bytes → d ≡ Memory)
 document_memory f bytes l (Ok x) e lists is said h = absurd is
 document_memory f bytes l (Err d) e lists is said h = λ netlist. is ∙ refused_memory f bytes e lists netlist (document_refused f bytes l e said h)

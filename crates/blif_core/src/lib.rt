@@ -19,6 +19,6 @@ mod tables;
 mod written;
 
 pub use net_core::{Circuit, NetError};
-pub use reading::read_blif;
+pub use reading::{read_blif, read_blif_up_to};
 pub use spelling::write_document;
 pub use written::document_of;

@@ -73,15 +73,17 @@ least_is_text c format reads can =
     let back = reads (least_written c) (spelling_same (written c) (written_well c format can) (written_kept c))
     well.controls in
     let listed_well : IsWellFormed back.listed.document = subst IsWellFormed (sym back.document) well in
+    let few : cost back.listed.document ≤ length c.net.gates =
+    subst (λ (d : Document). cost d ≤ length c.net.gates) (sym back.document) (cheap c format can) in
     record {
       listed = back.listed;
       said = back.said;
       document = back.document;
-      good = fault_none back.listed back.is listed_well;
+      good = fault_none (length c.net.gates) back.listed back.is listed_well few;
       well = listed_well;
       model = ap (λ (d : Document). d.model) back.document ∙ model_is c format can;
       describes = subst (λ (d : Document). Describes d c) (sym back.document) (least_describes c format can);
-      cheap = subst (λ (d : Document). cost d ≤ length c.net.gates) (sym back.document) (cheap c format can);
+      cheap = few;
     }
 
 pub least_is_format : IsFormat blif_format CanWriteBlif → ReadsBack → IsFormat least_format CanWriteBlif
@@ -89,6 +91,6 @@ least_is_format format reads = record {
   lists = format.lists;
   proper = format.proper;
   read_back = λ c can. least_is_text c format reads can;
-  kept = λ bytes c is room. (is.circuit.proper, room);
+  kept = λ gates bytes c is room. (is.circuit.proper, room);
   exchanged = format.exchanged;
 }

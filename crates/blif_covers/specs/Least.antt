@@ -3,6 +3,7 @@ use Rattle.std.specs.Prelude.{ℕ, Bool, true, false, not, ◌&&◌, ◌==◌, i
 use Rattle.net_theory.specs.Cover.{Cover}
 use Rattle.net_theory.specs.Document.{has, Table, Document}
 use Rattle.net_theory.specs.Circuit.{Circuit}
+use Rattle.net_theory.specs.Limits.{default_gates}
 use Rattle.net_document.specs.Format.{Format}
 use Rattle.blif_text.specs.Statements.{listed_of}
 use Rattle.blif_core.specs.Written.{row_if, written}
@@ -43,4 +44,4 @@ least_text c = spelled (least_written c)
 
 -- BLIF, written in this way
 abbrev pub least_format : Format
-least_format = record { listed = listed_of; written = least_written; text = least_text; operators = λ op. true }
+least_format = record { listed = listed_of; written = least_written; text = least_text; operators = λ op. true; most = default_gates }

@@ -27,15 +27,17 @@ text_by c is named =
     let well = written_well c is named in
     let back = read_back (written c) (written_spelled c is named) well.controls in
     let listed_well : IsWellFormed back.listed.document = subst IsWellFormed (sym back.document) well in
+    let cheap : cost back.listed.document ≤ length c.net.gates =
+    subst (λ (d : Document). cost d ≤ length c.net.gates) (sym back.document) (written_cost c is named) in
     record {
       listed = back.listed;
       said = back.said;
       document = back.document;
-      good = fault_none back.listed back.is listed_well;
+      good = fault_none (length c.net.gates) back.listed back.is listed_well cheap;
       well = listed_well;
       model = ap (λ (d : Document). d.model) back.document ∙ written_model c;
       describes = subst (λ (d : Document). Describes d c) (sym back.document) (written_describes c is named);
-      cheap = subst (λ (d : Document). cost d ≤ length c.net.gates) (sym back.document) (written_cost c is named);
+      cheap = cheap;
     }
 
 pub text_is : (c : Circuit) → IsProper c → HasRoomForNames c → IsTextOf blif_format (circuit_text c) c
@@ -46,6 +48,6 @@ blif_is_format = record {
   lists = texts_list;
   proper = λ c can. can.0;
   read_back = λ c can. text_is c can.0 can.1;
-  kept = λ bytes c is room. (is.circuit.proper, room);
+  kept = λ gates bytes c is room. (is.circuit.proper, room);
   exchanged = λ c m can answers operators. (exchanged_proper c m can.0 answers, can.1);
 }

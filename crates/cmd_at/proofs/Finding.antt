@@ -5,6 +5,7 @@ use Rattle.net_theory.specs.Document.{Name, Latch, Document, latches_of, latch_o
 use Rattle.net_theory.specs.Net.{bit_of, sink_values}
 use Rattle.net_theory.specs.Circuit.{Circuit, IsProper, Describes, sources_of}
 use Rattle.net_document.specs.Format.{Format, IsNetlist, IsCircuitOfText}
+use Rattle.net_document.specs.FormatLaws.{text_within, text_netlist}
 use Rattle.format_names.specs.declared.formats.FormatPair.{FormatPair}
 use Rattle.equiv_theory.specs.Counterexample.{HaveSameInterface}
 use Rattle.equiv_run.specs.declared.answer.CompareError.{CompareError}
@@ -23,8 +24,20 @@ use Rattle.cmd_at.specs.AtReport.{IsCircuitText, AreMiscounted, IsCircuitValued,
 are_netlists : (p : FormatPair) (first second : List ℕ) (c k : Circuit) → (of_c : IsCircuitOfText (first_format p) first c) →
     (of_k : IsCircuitOfText (second_format p) second k) → AreNetlists p first second of_c.listed.document of_k.listed.document
 are_netlists p first second c k of_c of_k = record {
-  first_is = record { listed = of_c.listed; said = of_c.said; is = refl; well = of_c.well };
-  second_is = record { listed = of_k.listed; said = of_k.said; is = refl; well = of_k.well };
+  first_is = record {
+    listed = of_c.listed;
+    said = of_c.said;
+    is = refl;
+    within = text_within (first_format p) first c of_c;
+    well = of_c.well;
+  };
+  second_is = record {
+    listed = of_k.listed;
+    said = of_k.said;
+    is = refl;
+    within = text_within (second_format p) second k of_k;
+    well = of_k.well;
+  };
 }
 
 names_same : (d : Document) (c : Circuit) → Describes d c → source_names d ≡ sources_of c
@@ -100,7 +113,7 @@ valued_found p bits first second c k (Miscounted count) of_c of_k sections found
 -- ---- the refusals
 
 netlist_of : (f : Format) (bytes : List ℕ) (c : Circuit) → IsCircuitOfText f bytes c → IsNetlist f bytes
-netlist_of f bytes c of = record { listed = of.listed; said = of.said; well = of.well }
+netlist_of f bytes c of = text_netlist f bytes c of
 
 first_refused : (p : FormatPair) (first second : List ℕ) (e : CompareError) → IsFirstRefused (first_format p) first e →
     IsFormatsRefused p first second e

@@ -1,13 +1,11 @@
 -- The bits of the sources as a word of a command line: as `equiv` writes those of a counterexample.
 use Rattle.std.specs.Prelude.{◌==◌, ◌&&◌, ◌||◌, ℕ, Bool, true, List, [], ◌∷◌, map, if◌then◌else◌, Option, Some, None, codes}
 use Rattle.command_line.specs.Options.{is_word}
+use Rattle.equiv_values.specs.Spelled.{is_one}
 
 -- the characters `0` and `1`
 abbrev pub is_bit : ℕ → Bool
 is_bit b = (b == 48) || (b == 49)
-
-abbrev pub is_one : ℕ → Bool
-is_one b = b == 49
 
 unfoldable pub are_bits : List ℕ → Bool
 are_bits [] = true

@@ -19,7 +19,9 @@ use Rattle.frame_core.specs.TaskLaws.{at_once_task}
 use Rattle.cmd_lines.specs.NetLineLaws.{status_kind}
 use Rattle.cmd_equiv.specs.EquivReport.{pair_status, equiv_refusal}
 use Rattle.cmd_equiv.specs.WithReport.{empty_refusal}
-use Rattle.cmd_at.specs.AtBits.{is_one, are_bits, bits_in}
+use Rattle.equiv_values.specs.Spelled.{is_one}
+use Rattle.equiv_values.specs.SpelledLaws.{spelled_ones}
+use Rattle.cmd_at.specs.AtBits.{are_bits, bits_in}
 use Rattle.cmd_at.specs.AtReport.{IsValuesText, IsOtherCount, IsAtAnswer, AtFault, FirstEmpty, SecondEmpty, Faulty, OtherCount, HasAtFault, MeetsAtFault, at_reply, count_refusal, at_refusal, at_task}
 
 -- ---- statuses
@@ -120,12 +122,6 @@ unfolding are_bits characters
 spelled_bits [] = refl
 spelled_bits (true ∷ bs) = spelled_bits bs
 spelled_bits (false ∷ bs) = spelled_bits bs
-
-spelled_ones : (bits : List Bool) → map is_one (characters bits) ≡ bits
-unfolding characters
-spelled_ones [] = refl
-spelled_ones (true ∷ bs) = ap (λ (xs : List Bool). true ∷ xs) (spelled_ones bs)
-spelled_ones (false ∷ bs) = ap (λ (xs : List Bool). false ∷ xs) (spelled_ones bs)
 
 picked : (dash empty good : Bool) (xs ys : List Bool) → dash ≡ false → empty ≡ false → good ≡ true → xs ≡ ys →
     (if dash then Some [] else (if empty then None else (if good then Some xs else None))) ≡ Some ys

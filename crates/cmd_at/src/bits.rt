@@ -1,10 +1,11 @@
 //! The bits of the sources as a word of a command line.
-ghost use Rattle.std.specs.Prelude.{◌≡◌, Bool, Vec, map, IfOk};
+ghost use Rattle.std.specs.Prelude.{◌≡◌, Bool, Vec, IfOk};
 ghost use Rattle.std.specs.Global.{Global};
 ghost use Rattle.std.specs.Option.{option_map};
 ghost use Rattle.command_line.specs.Options.{is_word as is_word_of};
 ghost use Rattle.cmd_at.specs.AtBits as spec;
 
+use equiv_values::bits_of;
 use std::alloc::{AllocError, Global};
 
 /// Whether two words are the same.
@@ -34,19 +35,6 @@ fn are_bits(word: &[u8]) -> bool
         left = rest;
     }
     true
-}
-
-/// The bits of a word of zeros and ones.
-fn bits_of(alloc: Global, word: &[u8]) -> Result<Vec<bool>, AllocError>
-    ensures { IfOk result (λ bits. bits.items ≡ map spec.is_one word.now) }
-{
-    let mut bits = Vec::new(alloc);
-    let mut left = word;
-    while let Some((byte, rest)) = left.split_first() {
-        bits.push(*byte == b'1')?;
-        left = rest;
-    }
-    Ok(bits)
 }
 
 /// The bits that a word spells, each by `0` or `1`, or none by `-`; None if it spells none.

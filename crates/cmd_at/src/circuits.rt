@@ -6,9 +6,9 @@ ghost use Rattle.equiv_run.specs.CircuitAnswers.{IsOther};
 ghost use Rattle.cmd_at.specs.AtReport.{IsCircuitText, IsCircuitValued};
 
 use crate::interface::same_interface;
-use crate::simulating::{same_bits, sink_bits};
 use crate::writing::write_values;
 use equiv_run::CompareError;
+use equiv_values::{same_bits, sink_bits};
 use net_core::Circuit;
 use std::alloc::{AllocError, Global};
 

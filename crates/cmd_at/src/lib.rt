@@ -23,7 +23,6 @@ mod command;
 mod interface;
 pub mod laws;
 mod pairs;
-mod simulating;
 mod writing;
 
 pub use bits::read_bits;

@@ -8,14 +8,13 @@ use Rattle.equiv_run.specs.declared.answer.EquivOutcome.TheVariants as standings
 use Rattle.equiv_run.specs.declared.answer.CompareError.{CompareError}
 use Rattle.equiv_run.specs.declared.answer.CompareError.TheVariants.{NoSecond, First, Second, DifferentInterface, Memory}
 use Rattle.net_theory.specs.Document.{Document}
-use Rattle.net_theory.specs.WellFormed.{IsWellFormed}
 use Rattle.net_document.specs.Listed.{Listed}
 use Rattle.net_document.specs.Format.{IsNetlist, HasNetFault}
 use Rattle.blif_core.specs.Blif.{blif_format}
 use Rattle.equiv_run.specs.Split.{split_of}
 use Rattle.equiv_run.specs.Pairs.{Lists, AreTwo, ShareInterface, HasPairFault}
 use Rattle.net_theory.specs.Limits.{most_of_two}
-use Rattle.equiv_run.specs.PairLaws.{answer_never, fault_one}
+use Rattle.equiv_run.specs.PairLaws.{answer_never, fault_one, netlist_listed}
 use Rattle.command_line.specs.declared.command.Command.TheVariants.{Equiv}
 use Rattle.command_line.specs.CommandLine.{AsksFor}
 use Rattle.frame_core.specs.declared.status.Status.TheVariants as statuses
@@ -68,7 +67,7 @@ document_one : (bytes : List ℕ) (d e : Document) → Lists bytes d → Lists b
 document_one bytes d e x y = sym x.is ∙ ap (λ (l : Listed). l.document) (listed_one (blif_format.listed bytes) x.listed y.listed x.said y.said) ∙ y.is
 
 is_netlist : (bytes : List ℕ) (d : Document) → Lists bytes d → IsNetlist blif_format bytes
-is_netlist bytes d lists = record { listed = lists.listed; said = lists.said; well = subst (λ (x : Document). IsWellFormed x) (sym lists.is) lists.well }
+is_netlist bytes d lists = netlist_listed bytes d lists
 
 same_interface : (bytes : List ℕ) (d e d' e' : Document) → AreTwo bytes d e → AreTwo bytes d' e' → ShareInterface d e → ShareInterface d' e'
 same_interface bytes d e d' e' x y share =

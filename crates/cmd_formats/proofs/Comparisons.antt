@@ -1,5 +1,5 @@
 -- The result of comparing two texts.
-use Rattle.std.specs.Prelude.{◌≡◌, ℕ, ◌≤◌, List, length, Bool, true, false, codes}
+use Rattle.std.specs.Prelude.{◌≡◌, ℕ, ◌≤◌, List, length, Option, Bool, true, false, codes}
 use Rattle.std.proofs.lemmas.Grind.{common_steps}
 use Rattle.net_theory.specs.Limits.{most_of_netlist}
 use Rattle.format_names.specs.declared.formats.FormatPair.{FormatPair}
@@ -12,16 +12,16 @@ use Rattle.equiv_formats.specs.ComparisonLaws.{formats_fault}
 use Rattle.frame_core.specs.Reported.{Reply, Refusal}
 use Rattle.frame_core.specs.Task.{HasReply, Refuses}
 use Rattle.cmd_equiv.specs.EquivReport.{equiv_refusal}
-use Rattle.cmd_equiv.specs.WithReport.{FirstEmpty, SecondEmpty, Faulty, empty_refusal, with_reply}
-use Rattle.cmd_formats.specs.FormatsReport.{formats_task}
+use Rattle.cmd_equiv.specs.WithReport.{FirstEmpty, SecondEmpty, Faulty, empty_refusal}
+use Rattle.cmd_formats.specs.FormatsReport.{named_reply, formats_task}
 
-pub compares : (p : FormatPair) (budget : ℕ) (first bytes text : List ℕ) (outcome : EquivOutcome) (no_sink : Bool) (reply : Reply) →
+pub compares : (p : FormatPair) (budget : ℕ) (first bytes text : List ℕ) (told : Option (List ℕ)) (outcome : EquivOutcome) (no_sink : Bool) (reply : Reply) →
     length bytes ≤ most_of_netlist → is_bare first ≡ false → is_bare bytes ≡ false →
-    IsFormatsAnswer p budget first bytes text outcome → SaysNoSink (first_format p) first no_sink →
-    reply ≡ with_reply (record { compared = record { text = text; outcome = outcome }; no_sink = no_sink }) →
+    IsFormatsAnswer p budget first bytes text told outcome → SaysNoSink (first_format p) first no_sink →
+    reply ≡ named_reply (record { compared = record { text = text; outcome = outcome }; told = told; no_sink = no_sink }) →
     HasReply (formats_task p budget first) bytes reply
-compares p budget first bytes text outcome no_sink reply within one other answer says is = record {
-  answer = record { compared = record { text = text; outcome = outcome }; no_sink = no_sink };
+compares p budget first bytes text told outcome no_sink reply within one other answer says is = record {
+  answer = record { compared = record { text = text; outcome = outcome }; told = told; no_sink = no_sink };
   has = record { within = within; said = record { one = one; other = other }; answer = answer; no_sink = says };
   is = is;
 }

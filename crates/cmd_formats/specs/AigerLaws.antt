@@ -30,7 +30,7 @@ both b is isnt = let e : true ≡ false = sym is ∙ isnt in cc
 
 reported_netlist : (settings : ImproveSettings) (bytes text report : List ℕ) →
     IsReported aiger_forms settings bytes text report → IsNetlist aiger_forms bytes
-reported_netlist settings bytes text report is = record { listed = is.improved.read; said = is.improved.said; well = is.improved.well }
+reported_netlist settings bytes text report is = record { listed = is.improved.read; said = is.improved.said; within = is.improved.within; well = is.improved.well }
 
 apart : (settings : ImproveSettings) (bytes : List ℕ) (i : Improvement) (fault : NamedFault) →
     IsAigerImprovement settings bytes i → HasAigerFault bytes fault → ⊥

@@ -14,8 +14,8 @@ use Rattle.frame_core.specs.Task.{IsAnswerStatus, IsRefusalStatus, IsTask}
 use Rattle.frame_core.specs.TaskLaws.{at_once_task}
 use Rattle.cmd_lines.specs.NetLineLaws.{status_kind}
 use Rattle.cmd_equiv.specs.EquivReport.{standing_status, pair_status, equiv_refusal}
-use Rattle.cmd_equiv.specs.WithReport.{WithFault, FirstEmpty, SecondEmpty, Faulty, TwoComparison, empty_refusal, with_reply, with_refusal}
-use Rattle.cmd_formats.specs.FormatsReport.{IsFormatsComparison, HasFault, MeetsFault, formats_task}
+use Rattle.cmd_equiv.specs.WithReport.{WithFault, FirstEmpty, SecondEmpty, Faulty, empty_refusal, with_refusal}
+use Rattle.cmd_formats.specs.FormatsReport.{NamedComparison, named_reply, IsFormatsComparison, HasFault, MeetsFault, formats_task}
 
 answer_statuses : (s : EquivOutcome) → IsAnswerStatus (standing_status s)
 answer_statuses standings.Equal = inl refl
@@ -39,12 +39,12 @@ refusal_statuses p first second (Faulty e) meets = fault_statuses p first second
 both : {A : Type 0} (b : Bool) → b ≡ true → b ≡ false → A
 both b is isnt = let e : true ≡ false = sym is ∙ isnt in cc
 
-apart : (p : FormatPair) (budget : ℕ) (first second : List ℕ) (c : TwoComparison) (fault : WithFault) →
+apart : (p : FormatPair) (budget : ℕ) (first second : List ℕ) (c : NamedComparison) (fault : WithFault) →
     IsFormatsComparison p budget first second c → HasFault p first second fault → ⊥
 apart p budget first second c FirstEmpty is meets = both (is_bare first) meets is.said.one
 apart p budget first second c SecondEmpty is meets = both (is_bare second) meets.other is.said.other
 apart p budget first second c (Faulty e) is meets =
-    formats_apart p budget first second c.compared.text c.compared.outcome e is.answer meets.fault
+    formats_apart p budget first second c.compared.text c.told c.compared.outcome e is.answer meets.fault
 
 one : (p : FormatPair) (first second : List ℕ) (a b : WithFault) →
     HasFault p first second a → HasFault p first second b → with_refusal a ≡ with_refusal b
@@ -60,7 +60,7 @@ one p first second (Faulty e) (Faulty f) x y = ap equiv_refusal (formats_one p f
 
 pub formats_is_task : (p : FormatPair) (budget : ℕ) (first : List ℕ) → IsTask (formats_task p budget first)
 formats_is_task p budget first =
-    at_once_task most_of_netlist TwoComparison (IsFormatsComparison p budget first) with_reply WithFault (MeetsFault p first) with_refusal
+    at_once_task most_of_netlist NamedComparison (IsFormatsComparison p budget first) named_reply WithFault (MeetsFault p first) with_refusal
     (λ c. answer_statuses c.compared.outcome)
     (λ bytes fault meets. inl (refusal_statuses p first bytes fault meets.met))
     (λ bytes c fault has meets. apart p budget first bytes c fault has meets.met)

@@ -4,7 +4,8 @@ ghost use Rattle.command_line.specs.CommandLine.{IsBudget};
 ghost use Rattle.net_theory.specs.Limits.{most_of_netlist};
 ghost use Rattle.cmd_formats.specs.FormatsReport.{formats_task};
 
-use cmd_equiv::{empty, refusal_of, reply_of_two};
+use crate::replying::reply_of_named;
+use cmd_equiv::{empty, refusal_of};
 use equiv_formats::{FormatPair, compare_netlists};
 use equiv_run::{CompareError, is_bare};
 use frame_core::{Replier, Reply, Stop};
@@ -15,7 +16,7 @@ use std::alloc::{AllocError, Global};
 use std::marker::PhantomData;
 
 /// The comparison of a netlist with that of the source: whether the two have the same outputs and next states,
-/// decided with the solver `S`.
+/// decided with the solver `S`. A difference is told by names on the notes.
 #[derive(Drop)]
 pub struct EquivFormats<'a, S, T> {
     /// The formats of the two netlists.
@@ -57,7 +58,7 @@ impl<'a, S: Solver, T: Tell> Replier for EquivFormats<'a, S, T> {
             self.budget,
             self.tell,
         ) {
-            Ok(two) => match reply_of_two(alloc, two) {
+            Ok(two) => match reply_of_named(alloc, two) {
                 Ok(reply) => Ok(reply),
                 Err(AllocError) => Err(Stop::NoMemory),
             },

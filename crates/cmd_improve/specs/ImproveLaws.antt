@@ -54,7 +54,7 @@ statuses_of e = statuses e
 
 -- an input that was improved is a netlist
 reported_netlist : (format : FormatAsked) (settings : ImproveSettings) (bytes text report : List ℕ) → IsReported (format_of format) settings bytes text report → IsNetlist (format_of format) bytes
-reported_netlist format settings bytes text report is = record { listed = is.improved.read; said = is.improved.said; well = is.improved.well }
+reported_netlist format settings bytes text report is = record { listed = is.improved.read; said = is.improved.said; within = is.improved.within; well = is.improved.well }
 
 pub improve_is_task : (format : FormatAsked) (settings : ImproveSettings) → IsTask (improve_task format settings)
 improve_is_task format settings =

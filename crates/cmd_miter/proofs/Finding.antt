@@ -3,6 +3,7 @@ use Rattle.std.specs.Prelude.{◌≡◌, ℕ, List, Result, Ok, Err, IsErrAnd, I
 use Rattle.std.proofs.Common.{sym, subst}
 use Rattle.net_theory.specs.Circuit.{Circuit}
 use Rattle.net_document.specs.Format.{IsNetlist, IsCircuitOfText}
+use Rattle.net_document.specs.FormatLaws.{text_netlist}
 use Rattle.blif_core.specs.Blif.{blif_format}
 use Rattle.equiv_theory.specs.Counterexample.{HaveSameInterface}
 use Rattle.equiv_run.specs.declared.answer.EquivOutcome.{EquivOutcome}
@@ -46,7 +47,7 @@ log_found budget first second c k text outcome of_c of_k logged = record {
 -- ---- the refusals
 
 netlist_of : (bytes : List ℕ) (c : Circuit) → IsCircuitOfText blif_format bytes c → IsNetlist blif_format bytes
-netlist_of bytes c of = record { listed = of.listed; said = of.said; well = of.well }
+netlist_of bytes c of = text_netlist blif_format bytes c of
 
 first_refused : (first second : List ℕ) (e : CompareError) → IsFirstRefused first e → IsTwoRefused first second e
 first_refused first second NoSecond refused = absurd refused

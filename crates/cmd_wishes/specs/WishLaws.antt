@@ -3,7 +3,7 @@ use Rattle.std.specs.Prelude.{◌≡◌, ℕ, ◌≤◌, ◌⊎◌, List, length
 use Rattle.std.proofs.Common.{sym, ◌∙◌, ap, refl, inl, inr}
 use Rattle.net_theory.specs.Limits.{most_of_netlist}
 use Rattle.net_document.specs.Format.{IsNetlist}
-use Rattle.net_document.specs.FormatLaws.{fault_one, fault_never}
+use Rattle.net_document.specs.FormatLaws.{fault_one, fault_never, text_netlist}
 use Rattle.format_names.specs.declared.formats.NetFormat.{NetFormat}
 use Rattle.format_names.specs.declared.formats.NetFormat.TheVariants.{Blif, Bench, Aiger}
 use Rattle.net_formats.specs.Formats.{format_of}
@@ -41,7 +41,7 @@ both b is isnt = let e : true ≡ false = sym is ∙ isnt in cc
 blif_netlist : (covers : CoversAsked) (bytes : List ℕ) → IsNetlist (blif_in covers) bytes →
     IsNetlist (format_of Blif) bytes
 blif_netlist Rows bytes is = is
-blif_netlist Least bytes is = record { listed = is.listed; said = is.said; well = is.well }
+blif_netlist Least bytes is = record { listed = is.listed; said = is.said; within = is.within; well = is.well }
 
 read_netlist : (format : NetFormat) (w : Wishes) (bytes : List ℕ) → IsNetlist (wished_format format w) bytes →
     IsNetlist (format_of format) bytes
@@ -52,11 +52,11 @@ read_netlist Aiger w bytes is = is
 written_netlist : (format : NetFormat) (settings : ImproveSettings) (w : Wishes) (bytes : List ℕ)
     (answer : WishAnswer) → IsAnswer format settings w bytes answer → IsNetlist (wished_format format w) bytes
 written_netlist format settings w bytes (Improved i) is =
-    record { listed = is.0.read; said = is.0.said; well = is.0.well }
+    record { listed = is.0.read; said = is.0.said; within = is.0.within; well = is.0.well }
 written_netlist format settings w bytes (CannotExpress name) is =
-    record { listed = is.of_text.listed; said = is.of_text.said; well = is.of_text.well }
+    text_netlist (wished_format format w) bytes is.circuit is.of_text
 written_netlist format settings w bytes TooLarge is =
-    record { listed = is.of_text.listed; said = is.of_text.said; well = is.of_text.well }
+    text_netlist (wished_format format w) bytes is.circuit is.of_text
 
 apart : (format : NetFormat) (settings : ImproveSettings) (w : Wishes) (bytes : List ℕ) (answer : WishAnswer)
     (fault : NamedFault) → IsWishAnswer format settings w bytes answer → HasWishFault format bytes fault → ⊥

@@ -22,7 +22,7 @@ use std::alloc::{AllocError, Global};
 /// Narrow nets have at most 12 sources and, over all their assignments, at most 1,000,000,000 values of gates and
 /// sinks. They are simulated exhaustively, and false says that they differ. For others the solver `S` decides with
 /// a `budget` of 1 to 10,000,000 conflicts, and false can also mean that the budget was spent. A budget of at
-/// least twice 3 to the number of the miter's variables is never spent. Each net has at most 100,000 gates, and
+/// least twice 3 to the number of the miter's variables is never spent. Each net has at most 1,000,000 gates, and
 /// the first has fewer than 300,000,000 sources and sinks.
 pub fn equal_nets<S: Solver>(
     alloc: Global,

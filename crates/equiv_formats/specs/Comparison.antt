@@ -1,6 +1,7 @@
 -- Two netlists, each a text of its own in a format of its own: the answers and the refusals.
-use Rattle.std.specs.Prelude.{◌≡◌, ℕ, Bool, true, false, List, Ok}
+use Rattle.std.specs.Prelude.{◌≡◌, ℕ, ◌≤◌, Bool, true, false, List, Option, Ok}
 use Rattle.net_theory.specs.Document.{Document}
+use Rattle.net_theory.specs.Cost.{cost}
 use Rattle.net_theory.specs.WellFormed.{IsWellFormed}
 use Rattle.net_document.specs.Listed.{Listed}
 use Rattle.net_document.specs.Format.{Format, IsNetlist, HasNetFault}
@@ -13,14 +14,16 @@ use Rattle.equiv_run.specs.declared.answer.EquivOutcome.{EquivOutcome}
 use Rattle.equiv_run.specs.declared.answer.CompareError.{CompareError}
 use Rattle.equiv_run.specs.declared.answer.CompareError.TheVariants.{NoSecond, First, Second, DifferentInterface}
 use Rattle.equiv_run.specs.declared.answer.CompareError.TheVariants.{Memory}
-use Rattle.equiv_run.specs.Pairs.{ShareInterface, IsDocumentAnswer}
+use Rattle.equiv_run.specs.Pairs.{ShareInterface}
 use Rattle.equiv_run.specs.Two.{has_no_sink}
+use Rattle.equiv_values.specs.Named.{IsNamedAnswer}
 
--- The text is a netlist in the format, and this is its document.
+-- The text is a netlist in the format, within its limit of gates, and this is its document.
 pub record Lists (f : Format) (bytes : List ℕ) (d : Document) : Type 0 where
   pub listed : Listed
   pub said : f.listed bytes ≡ Ok listed
   pub is : listed.document ≡ d
+  pub within : cost d ≤ f.most
   pub well : IsWellFormed d
 
 -- the formats of the two texts
@@ -46,14 +49,15 @@ share_sections Bench other first second = true
 abbrev pub ShareSections : FormatPair → List ℕ → List ℕ → Type 0
 ShareSections p first second = share_sections p.first p.second first second ≡ true
 
--- The texts are two netlists of one interface, and `text` is the answer for their documents.
-pub record IsFormatsAnswer (p : FormatPair) (budget : ℕ) (first second text : List ℕ) (outcome : EquivOutcome) : Type 0 where
+-- The texts are two netlists of one interface, `text` is the answer for their documents, and `told` what is told of a
+-- difference by names.
+pub record IsFormatsAnswer (p : FormatPair) (budget : ℕ) (first second text : List ℕ) (told : Option (List ℕ)) (outcome : EquivOutcome) : Type 0 where
   pub one : Document
   pub other : Document
   pub are : AreNetlists p first second one other
   pub interface : ShareInterface one other
   pub sections : ShareSections p first second
-  pub reported : IsDocumentAnswer budget one other text outcome
+  pub reported : IsNamedAnswer budget one other text told outcome
 
 -- The answer says whether the netlist of the text has neither an output nor a latch.
 abbrev pub SaysNoSink : Format → List ℕ → Bool → Type 0

@@ -1,9 +1,10 @@
 -- Two texts that are compared have an answer or at most one fault.
-use Rattle.std.specs.Prelude.{◌≡◌, ℕ, List, Bool, true, false, Result, Ok, Err, IsErrAnd, IfErr, refl}
+use Rattle.std.specs.Prelude.{◌≡◌, ℕ, List, Option, Bool, true, false, Result, Ok, Err, IsErrAnd, IfErr, refl, ◌≤◌}
 use Rattle.std.proofs.Common.{ap, sym, ◌∙◌, subst}
 use Rattle.net_theory.specs.Document.{Name, Latch, Document, latches_of}
 use Rattle.net_theory.specs.WellFormed.{IsWellFormed}
 use Rattle.net_theory.specs.Circuit.{Circuit}
+use Rattle.net_theory.specs.Cost.{cost}
 use Rattle.net_core.specs.declared.error.NetError.{NetError}
 use Rattle.net_document.specs.Listed.{Listed}
 use Rattle.net_document.specs.Format.{Format, IsNetlist, IsCircuitOfText, HasNetFault}
@@ -15,18 +16,26 @@ use Rattle.net_formats.specs.FormatLaws.{lists_well}
 use Rattle.equiv_run.specs.declared.answer.EquivOutcome.{EquivOutcome}
 use Rattle.equiv_run.specs.declared.answer.CompareError.{CompareError}
 use Rattle.equiv_run.specs.declared.answer.CompareError.TheVariants.{NoSecond, First, Second, DifferentInterface, Memory}
-use Rattle.equiv_run.specs.declared.answer.ComparedTwo.{ComparedTwo}
+use Rattle.equiv_formats.specs.declared.comparing.NamedTwo.{NamedTwo}
 use Rattle.equiv_run.specs.Pairs.{ShareInterface}
-use Rattle.equiv_run.specs.PairLaws.{shared, have_same, answered_of, interface_of}
-use Rattle.equiv_run.specs.CircuitAnswers.{IsCircuitAnswer, IsOther}
+use Rattle.equiv_run.specs.PairLaws.{shared, have_same}
+use Rattle.equiv_run.specs.CircuitAnswers.{IsOther}
 use Rattle.equiv_run.specs.Two.{lacks_sinks}
+use Rattle.equiv_values.specs.Named.{IsNamedCircuitAnswer}
+use Rattle.equiv_values.specs.NamedLaws.{named_of, named_interface}
 use Rattle.equiv_formats.specs.Comparison.{Lists, first_format, second_format, AreNetlists, IsFormatsAnswer, SaysNoSink, DifferInInterface, HasFormatsFault, IsFormatsRefused, IsFirstRefused, IsSecondRefused}
 use Rattle.equiv_formats.specs.Comparison.{share_sections, ShareSections, AreSectionsRefused}
 
 -- ---- documents
 
 lists_of : (f : Format) (bytes : List ℕ) (c : Circuit) → (of : IsCircuitOfText f bytes c) → Lists f bytes of.listed.document
-lists_of f bytes c of = record { listed = of.listed; said = of.said; is = refl; well = of.well }
+lists_of f bytes c of = record {
+  listed = of.listed;
+  said = of.said;
+  is = refl;
+  within = faults.text_within f bytes c of;
+  well = of.well;
+}
 
 are_netlists : (p : FormatPair) (first second : List ℕ) (c k : Circuit) → (of_c : IsCircuitOfText (first_format p) first c) →
     (of_k : IsCircuitOfText (second_format p) second k) → AreNetlists p first second of_c.listed.document of_k.listed.document
@@ -43,20 +52,25 @@ lists_one : (f : Format) (bytes : List ℕ) (d e : Document) → Lists f bytes d
 lists_one f bytes d e x y = sym x.is ∙ ap (λ (l : Listed). l.document) (ok_one (f.listed bytes) x.listed y.listed x.said y.said) ∙ y.is
 
 netlist_listed : (f : Format) (bytes : List ℕ) (d : Document) → Lists f bytes d → IsNetlist f bytes
-netlist_listed f bytes d lists = record { listed = lists.listed; said = lists.said; well = subst (λ (x : Document). IsWellFormed x) (sym lists.is) lists.well }
+netlist_listed f bytes d lists = record {
+  listed = lists.listed;
+  said = lists.said;
+  within = subst (λ (x : Document). cost x ≤ f.most) (sym lists.is) lists.within;
+  well = subst (λ (x : Document). IsWellFormed x) (sym lists.is) lists.well;
+}
 
 -- ---- the answers
 
-pub formats_answer : (p : FormatPair) (budget : ℕ) (first second : List ℕ) (c k : Circuit) (text : List ℕ) (outcome : EquivOutcome) →
+pub formats_answer : (p : FormatPair) (budget : ℕ) (first second : List ℕ) (c k : Circuit) (text : List ℕ) (told : Option (List ℕ)) (outcome : EquivOutcome) →
     IsCircuitOfText (first_format p) first c → IsCircuitOfText (second_format p) second k → ShareSections p first second →
-    IsCircuitAnswer budget c k text outcome → IsFormatsAnswer p budget first second text outcome
-formats_answer p budget first second c k text outcome of_c of_k sections reported = record {
+    IsNamedCircuitAnswer budget c k text told outcome → IsFormatsAnswer p budget first second text told outcome
+formats_answer p budget first second c k text told outcome of_c of_k sections reported = record {
   one = of_c.listed.document;
   other = of_k.listed.document;
   are = are_netlists p first second c k of_c of_k;
-  interface = shared of_c.listed.document of_k.listed.document c k of_c.circuit.describes of_k.circuit.describes (interface_of budget c k text outcome reported);
+  interface = shared of_c.listed.document of_k.listed.document c k of_c.circuit.describes of_k.circuit.describes (named_interface budget c k text told outcome reported);
   sections = sections;
-  reported = answered_of budget of_c.listed.document of_k.listed.document c k text outcome of_c.circuit of_k.circuit reported;
+  reported = named_of budget of_c.listed.document of_k.listed.document c k text told outcome of_c.circuit of_k.circuit reported;
 }
 
 -- outputs and latches of the circuit are those of the text's document
@@ -72,7 +86,7 @@ says_no_sink f bytes c no_sink of is d lists =
 -- ---- the refusals
 
 netlist_of : (f : Format) (bytes : List ℕ) (c : Circuit) → IsCircuitOfText f bytes c → IsNetlist f bytes
-netlist_of f bytes c of = record { listed = of.listed; said = of.said; well = of.well }
+netlist_of f bytes c of = faults.text_netlist f bytes c of
 
 first_refused : (p : FormatPair) (first second : List ℕ) (e : CompareError) → IsFirstRefused (first_format p) first e → IsFormatsRefused p first second e
 first_refused p first second NoSecond refused = absurd refused
@@ -119,26 +133,26 @@ sections_refused p first second c k DifferentInterface of_c of_k refused = recor
 sections_refused p first second c k Memory of_c of_k refused = tt
 
 -- an error that is passed on
-passed : (P : CompareError → Type 0) (r : Result ComparedTwo CompareError) (e : CompareError) → IsErrAnd r (λ d. d ≡ e) →
+passed : (P : CompareError → Type 0) (r : Result NamedTwo CompareError) (e : CompareError) → IsErrAnd r (λ d. d ≡ e) →
     P e → IfErr r P
 passed P (Ok x) e is holds = tt
 passed P (Err d) e is holds = subst P (sym is) holds
 
-pub first_passed : (p : FormatPair) (first second : List ℕ) (r : Result ComparedTwo CompareError) (e : CompareError) →
+pub first_passed : (p : FormatPair) (first second : List ℕ) (r : Result NamedTwo CompareError) (e : CompareError) →
     IsErrAnd r (λ d. d ≡ e) → IsFirstRefused (first_format p) first e → IfErr r (IsFormatsRefused p first second)
 first_passed p first second r e is refused = passed (IsFormatsRefused p first second) r e is (first_refused p first second e refused)
 
-pub second_passed : (p : FormatPair) (first second : List ℕ) (c : Circuit) (r : Result ComparedTwo CompareError) (e : CompareError) →
+pub second_passed : (p : FormatPair) (first second : List ℕ) (c : Circuit) (r : Result NamedTwo CompareError) (e : CompareError) →
     IsErrAnd r (λ d. d ≡ e) → IsCircuitOfText (first_format p) first c → IsSecondRefused (second_format p) second e →
     IfErr r (IsFormatsRefused p first second)
 second_passed p first second c r e is of refused = passed (IsFormatsRefused p first second) r e is (second_refused p first second c e of refused)
 
-pub other_passed : (p : FormatPair) (first second : List ℕ) (c k : Circuit) (r : Result ComparedTwo CompareError) (e : CompareError) →
+pub other_passed : (p : FormatPair) (first second : List ℕ) (c k : Circuit) (r : Result NamedTwo CompareError) (e : CompareError) →
     IsErrAnd r (λ d. d ≡ e) → IsCircuitOfText (first_format p) first c → IsCircuitOfText (second_format p) second k →
     IsOther c k e → IfErr r (IsFormatsRefused p first second)
 other_passed p first second c k r e is of_c of_k other = passed (IsFormatsRefused p first second) r e is (other_refused p first second c k e of_c of_k other)
 
-pub sections_passed : (p : FormatPair) (first second : List ℕ) (c k : Circuit) (r : Result ComparedTwo CompareError) (e : CompareError) →
+pub sections_passed : (p : FormatPair) (first second : List ℕ) (c k : Circuit) (r : Result NamedTwo CompareError) (e : CompareError) →
     IsErrAnd r (λ d. d ≡ e) → IsCircuitOfText (first_format p) first c → IsCircuitOfText (second_format p) second k →
     AreSectionsRefused p first second e → IfErr r (IsFormatsRefused p first second)
 sections_passed p first second c k r e is of_c of_k refused = passed (IsFormatsRefused p first second) r e is (sections_refused p first second c k e of_c of_k refused)
@@ -164,9 +178,9 @@ formats_sound p first second d e DifferentInterface are share sections fault =
     fault.differ (same_shared p first second d e fault.one fault.other are fault.are share) sections
 formats_sound p first second d e Memory are share sections fault = fault
 
-pub formats_apart : (p : FormatPair) (budget : ℕ) (first second text : List ℕ) (outcome : EquivOutcome) (error : CompareError) →
-    IsFormatsAnswer p budget first second text outcome → HasFormatsFault p first second error → ⊥
-formats_apart p budget first second text outcome error is fault =
+pub formats_apart : (p : FormatPair) (budget : ℕ) (first second text : List ℕ) (told : Option (List ℕ)) (outcome : EquivOutcome) (error : CompareError) →
+    IsFormatsAnswer p budget first second text told outcome → HasFormatsFault p first second error → ⊥
+formats_apart p budget first second text told outcome error is fault =
     formats_sound p first second is.one is.other error is.are is.interface is.sections fault
 
 first_netlist : (p : FormatPair) (first second : List ℕ) → DifferInInterface p first second → IsNetlist (first_format p) first

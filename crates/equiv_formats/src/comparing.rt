@@ -5,17 +5,30 @@ ghost use Rattle.net_theory.specs.Limits.{most_of_two};
 ghost use Rattle.net_document.specs.Format.{IsCircuitOfText};
 ghost use Rattle.net_formats.specs.Formats.{format_of};
 ghost use Rattle.equiv_run.specs.Two.{lacks_sinks as lacks_sinks_of};
+ghost use Rattle.equiv_values.specs.Told.{told_in};
 ghost use Rattle.equiv_formats.specs.Comparison.{first_format, IsFormatsAnswer, IsFormatsRefused, SaysNoSink};
 ghost use Rattle.equiv_formats.specs.Comparison.{IsFirstRefused, IsSecondRefused};
 
 use crate::sections::check_sections;
-use equiv_run::{CompareError, ComparedTwo, compare_circuits};
+use equiv_run::{CompareError, Compared};
+use equiv_values::{ComparedNamed, compare_named};
 use format_names::{FormatPair, NetFormat};
 use net_core::{Circuit, NetError};
 use net_formats::read_netlist;
 use progress::Tell;
 use sat_solve::Solver;
 use std::alloc::Global;
+
+/// The comparison of two netlists, each in its format.
+#[derive(Drop)]
+pub struct NamedTwo {
+    /// The result.
+    pub compared: Compared,
+    /// The values of a counterexample by names; None if no difference was found.
+    pub told: Option<Vec<u8>>,
+    /// Whether neither netlist has an output or a latch, so that nothing was compared.
+    pub no_sink: bool,
+}
 
 /// Reads the first netlist.
 fn read_first(alloc: Global, format: NetFormat, bytes: &[u8]) -> Result<Circuit, CompareError>
@@ -65,19 +78,24 @@ pub fn compare_netlists<S: Solver, T: Tell>(
     second: &[u8],
     conflicts: u32,
     tell: &T,
-) -> Result<ComparedTwo, CompareError>
+) -> Result<NamedTwo, CompareError>
     requires first { length first.now ≤ most_of_two }
     requires second { length second.now ≤ most_of_two }
     requires budget { (1 ≤ conflicts) × (conflicts ≤ most_conflicts) }
     ensures answer { IfOk result (λ c. IsFormatsAnswer formats conflicts first.now second.now c.compared.text.items
-        c.compared.outcome) }
+        (told_in c.told) c.compared.outcome) }
     ensures no_sink { IfOk result (λ c. SaysNoSink (first_format formats) first.now c.no_sink) }
     ensures refused { IfErr result (IsFormatsRefused formats first.now second.now) }
 {
     let one = read_first(alloc, formats.first, first)?;
     let other = read_second(alloc, formats.second, second)?;
     check_sections(alloc, formats, first, second)?;
-    let compared = compare_circuits::<S, T>(alloc, &one, &other, conflicts, tell)?;
+    let named = compare_named::<S, T>(alloc, &one, &other, conflicts, tell)?;
     let no_sink = lacks_sinks(&one);
-    Ok(ComparedTwo { compared, no_sink })
+    let ComparedNamed { compared, told } = named;
+    Ok(NamedTwo {
+        compared,
+        told,
+        no_sink,
+    })
 }

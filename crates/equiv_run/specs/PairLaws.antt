@@ -1,6 +1,6 @@
 -- An answer for two circuits is one for the texts that they were read from; a text has an answer or at most one
 -- fault.
-use Rattle.std.specs.Prelude.{◌≡◌, ℕ, ◌+◌, ◌-◌, Bool, false, List, ◌++◌, length, map, take, drop, slice_index_or, Option, Some, None, Result, Ok, Err, IsErrAnd, IfErr, refl}
+use Rattle.std.specs.Prelude.{◌≡◌, ℕ, ◌+◌, ◌-◌, Bool, false, List, ◌++◌, length, map, take, drop, slice_index_or, Option, Some, None, Result, Ok, Err, IsErrAnd, IfErr, refl, ◌≤◌}
 use Rattle.std.proofs.Common.{arith, ap, sym, ◌∙◌, subst, length-append}
 use Rattle.std.proofs.lemmas.List.{length-map}
 use Rattle.net_theory.specs.Document.{Name, Document, Latch, latch_output, latches_of, source_names, sink_names}
@@ -8,6 +8,7 @@ use Rattle.net_theory.specs.Behaviour.{IsValuationOf}
 use Rattle.net_theory.specs.WellFormed.{IsWellFormed}
 use Rattle.net_theory.specs.Net.{bit_of, sink_values}
 use Rattle.net_theory.specs.Circuit.{Circuit, IsProper, Describes, IsCircuitOf, sources_of}
+use Rattle.net_theory.specs.Cost.{cost}
 use Rattle.net_core.specs.declared.error.NetError.{NetError}
 use Rattle.net_document.specs.Listed.{Listed}
 use Rattle.net_document.specs.Format.{IsNetlist, IsCircuitOfText, HasNetFault}
@@ -91,7 +92,13 @@ documents_differ d e c k sink bits of_c of_k of_d of_e same first = record {
 -- ---- the answers
 
 pub lists_of : (bytes : List ℕ) (c : Circuit) → (of : IsCircuitOfText blif_format bytes c) → Lists bytes of.listed.document
-lists_of bytes c of = record { listed = of.listed; said = of.said; is = refl; well = of.well }
+lists_of bytes c of = record {
+  listed = of.listed;
+  said = of.said;
+  is = refl;
+  within = faults.text_within blif_format bytes c of;
+  well = of.well;
+}
 
 pub answered_of : (budget : ℕ) (d e : Document) (c k : Circuit) (text : List ℕ) (outcome : EquivOutcome) →
     IsCircuitOf d c → IsCircuitOf e k → IsCircuitAnswer budget c k text outcome →
@@ -182,7 +189,12 @@ place_none : (r : Option ℕ) (p : ℕ) → r ≡ None → r ≡ Some p → ⊥
 place_none r p x y = let e : None ≡ Some p = sym x ∙ y in cc
 
 pub netlist_listed : (bytes : List ℕ) (d : Document) → Lists bytes d → IsNetlist blif_format bytes
-netlist_listed bytes d lists = record { listed = lists.listed; said = lists.said; well = subst (λ (x : Document). IsWellFormed x) (sym lists.is) lists.well }
+netlist_listed bytes d lists = record {
+  listed = lists.listed;
+  said = lists.said;
+  within = subst (λ (x : Document). cost x ≤ blif_format.most) (sym lists.is) lists.within;
+  well = subst (λ (x : Document). IsWellFormed x) (sym lists.is) lists.well;
+}
 
 never : (bytes : List ℕ) (e : NetError) → IsNetlist blif_format bytes → HasNetFault blif_format bytes e → ⊥
 never bytes e is fault = faults.fault_never blif_format bytes e texts_list is fault

@@ -5,6 +5,7 @@ use Rattle.sat_theory.specs.Line.{Line}
 use Rattle.sat_theory.specs.Log.{Refutes, ReachesBudget, KeepsHalf, BoundsLiveAdditions}
 use Rattle.net_theory.specs.Document.{Name, Document, latches_of, source_names, sink_names}
 use Rattle.net_theory.specs.Behaviour.{IsValuationOf, HasOneValuation, IsEquivalent}
+use Rattle.net_theory.specs.Cost.{cost}
 use Rattle.net_theory.specs.WellFormed.{IsWellFormed}
 use Rattle.net_theory.specs.Net.{Net}
 use Rattle.net_theory.specs.NetOf.{net_of}
@@ -24,11 +25,12 @@ use Rattle.equiv_run.specs.Texts.{equal_text, undecided_text, differ_text}
 
 -- ---- two documents
 
--- The text is a BLIF netlist, and this is its document.
+-- The text is a BLIF netlist within the limit of gates, and this is its document.
 pub record Lists (bytes : List ℕ) (d : Document) : Type 0 where
   pub listed : Listed
   pub said : blif_format.listed bytes ≡ Ok listed
   pub is : listed.document ≡ d
+  pub within : cost d ≤ blif_format.most
   pub well : IsWellFormed d
 
 -- The text is two BLIF netlists with these documents; the first ends where the text is split.

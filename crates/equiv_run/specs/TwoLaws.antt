@@ -44,7 +44,7 @@ says_no_sink bytes c no_sink of is d lists =
 -- ---- the refusals
 
 netlist_of : (bytes : List ℕ) (c : Circuit) → IsCircuitOfText blif_format bytes c → IsNetlist blif_format bytes
-netlist_of bytes c of = record { listed = of.listed; said = of.said; well = of.well }
+netlist_of bytes c of = faults.text_netlist blif_format bytes c of
 
 first_refused : (first second : List ℕ) (e : CompareError) → IsFirstRefused first e → IsTwoRefused first second e
 first_refused first second NoSecond refused = absurd refused

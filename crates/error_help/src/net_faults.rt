@@ -2,7 +2,7 @@
 
 use crate::expected::{Entry, Place};
 use help_text::Part;
-use net_theory::{MOST_CUBES, MOST_GATES, MOST_LINE_BYTES, MOST_NAME_BYTES, MOST_TABLE_INPUTS};
+use net_theory::{DEFAULT_GATES, MOST_CUBES, MOST_LINE_BYTES, MOST_NAME_BYTES, MOST_TABLE_INPUTS};
 
 /// Faults of netlists of both formats.
 pub(crate) const NETLISTS: &[Entry] = &[
@@ -23,7 +23,7 @@ pub(crate) const NETLISTS: &[Entry] = &[
     Entry {
         name: b"TooManyGates",
         place: Place::Counted,
-        says: &[Part::Text(b" gates; at most "), Part::Number(MOST_GATES)],
+        says: &[Part::Text(b" gates; at most "), Part::Number(DEFAULT_GATES)],
     },
     Entry {
         name: b"CannotExpress",
@@ -50,6 +50,21 @@ pub(crate) const NETLISTS: &[Entry] = &[
         name: b"Undriven",
         place: Place::Read,
         says: &[Part::Text(b"an input, a table or gate, or a latch drives each name that is read")],
+    },
+    Entry {
+        name: b"NoInput",
+        place: Place::Read,
+        says: &[Part::Text(b"an input of this name, as the other netlist has one")],
+    },
+    Entry {
+        name: b"NoOutput",
+        place: Place::Read,
+        says: &[Part::Text(b"an output of this name, as the other netlist has one")],
+    },
+    Entry {
+        name: b"NoLatch",
+        place: Place::Driven,
+        says: &[Part::Text(b"a latch with this output, as the other netlist has one")],
     },
     Entry {
         name: b"Cycle",
@@ -154,6 +169,13 @@ pub(crate) const PAIRS: &[Entry] = &[
         place: Place::Nowhere,
         says: &[Part::Text(
             b"the same inputs, outputs and clocks in the same order, and the same latches",
+        )],
+    },
+    Entry {
+        name: b"DifferentLatches",
+        place: Place::Nowhere,
+        says: &[Part::Text(
+            b"the same clocks, and one control and initial value of the latches of each name",
         )],
     },
     Entry {

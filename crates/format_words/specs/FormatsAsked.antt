@@ -1,5 +1,5 @@
 -- The formats that words ask for, and the words that mean the same without them.
-use Rattle.std.specs.Prelude.{ℕ, List, [], ◌∷◌, ◌++◌, Bool, true, false, ◌||◌, Option, Some, None, codes, if◌then◌else◌}
+use Rattle.std.specs.Prelude.{ℕ, List, [], ◌∷◌, ◌++◌, Bool, true, false, not, ◌||◌, Option, Some, None, codes, if◌then◌else◌}
 use Rattle.command_line.specs.Options.{is_word}
 use Rattle.command_line.specs.CommandLine.{word_after, is_named}
 use Rattle.file_words.specs.Formats.{ends_with}
@@ -7,7 +7,7 @@ use Rattle.file_words.specs.Sorting.{Line, file_line}
 use Rattle.format_names.specs.declared.formats.NetFormat.{NetFormat}
 use Rattle.format_names.specs.declared.formats.NetFormat.TheVariants.{Blif, Bench, Aiger}
 use Rattle.format_words.specs.declared.asking.FormatsAsked.{FormatsAsked}
-use Rattle.format_words.specs.declared.asking.FormatsAsked.TheVariants.{Own, ImproveAiger, Compare}
+use Rattle.format_words.specs.declared.asking.FormatsAsked.TheVariants.{Own, ImproveAiger, Compare, Match}
 
 -- ---- formats
 
@@ -53,36 +53,59 @@ abbrev pub pair_asked : Option (List ℕ) → List ℕ → List ℕ → FormatsA
 pair_asked (Some word) first second = pair_named (format_named word)
 pair_asked None first second = Compare (record { first = format_of_file first; second = format_of_file second })
 
-abbrev pub equiv_asked : Option (List ℕ) → List (List ℕ) → FormatsAsked
-equiv_asked named [] = Own
-equiv_asked named (first ∷ []) = Own
-equiv_asked named (first ∷ second ∷ []) = pair_asked named first second
-equiv_asked named (first ∷ second ∷ third ∷ files) = Own
+-- `--match names`, and no option that asks for more than a comparison
+abbrev pub is_names : Option (List ℕ) → Bool
+is_names None = false
+is_names (Some word) = is_word word (codes "names")
+
+abbrev pub asks_more : List (List ℕ) → Bool
+asks_more options =
+    is_named (codes "--at") options || is_named (codes "--formula") options || is_named (codes "--log") options
+
+abbrev pub by_names : List (List ℕ) → Bool
+by_names options = if is_names (word_after (codes "--match") options) then not (asks_more options) else false
+
+-- A comparison of two files is one by names, if the words ask for that.
+abbrev pub matched : Bool → FormatsAsked → FormatsAsked
+matched true (Compare pair) = Match pair
+matched by asked = asked
+
+abbrev pub files_asked : Option (List ℕ) → List (List ℕ) → FormatsAsked
+files_asked named [] = Own
+files_asked named (first ∷ []) = Own
+files_asked named (first ∷ second ∷ []) = pair_asked named first second
+files_asked named (first ∷ second ∷ third ∷ files) = Own
+
+abbrev pub equiv_asked : List (List ℕ) → List (List ℕ) → FormatsAsked
+equiv_asked options files = matched (by_names options) (files_asked (named_format options) files)
 
 -- by the words of a line, which are those of the command without files, and the files that it reads
 abbrev pub asked_in : List (List ℕ) → List (List ℕ) → FormatsAsked
 asked_in [] files = Own
 asked_in (name ∷ options) files =
     if is_word name (codes "improve") then improve_asked (named_format options) files
-    else (if is_word name (codes "equiv") then equiv_asked (named_format options) files else Own)
+    else (if is_word name (codes "equiv") then equiv_asked options files else Own)
 
 abbrev pub asked_on : Option Line → FormatsAsked
 asked_on None = Own
 asked_on (Some line) = asked_in line.words line.operands
 
 -- What words ask for. Examples: `improve a.aag`, `improve a.aig` and `improve --format aiger` ask for AIGER;
--- `equiv a.aag b.bench` asks for AIGER and BENCH.
+-- `equiv a.aag b.bench` asks for AIGER and BENCH, and with `--match names` for a comparison by names.
 abbrev pub asked_of : List (List ℕ) → FormatsAsked
 asked_of words = asked_on (file_line words)
 
 -- ---- the words without formats
 
--- pairs of a name and a value without the first `--format`
-unfoldable pub without_format : List (List ℕ) → List (List ℕ)
-without_format [] = []
-without_format (name ∷ []) = name ∷ []
-without_format (name ∷ word ∷ words) =
-    if is_word (codes "--format") name then words else name ∷ word ∷ without_format words
+-- pairs of a name and a value without the first pair of this name
+unfoldable pub without : List ℕ → List (List ℕ) → List (List ℕ)
+without option [] = []
+without option (name ∷ []) = name ∷ []
+without option (name ∷ word ∷ words) = if is_word option name then words else name ∷ word ∷ without option words
+
+abbrev pub plain_options : FormatsAsked → List (List ℕ) → List (List ℕ)
+plain_options (Match pair) options = without (codes "--format") (without (codes "--match") options)
+plain_options asked options = without (codes "--format") options
 
 abbrev pub option_words : List ℕ → Option (List ℕ) → List (List ℕ)
 option_words name None = []
@@ -105,7 +128,7 @@ extra_words asked options = []
 abbrev pub rebuilt_from : FormatsAsked → Line → List (List ℕ) → List (List ℕ)
 rebuilt_from asked line [] = []
 rebuilt_from asked line (name ∷ options) =
-    name ∷ without_format options ++ extra_words asked options ++ file_words_of line
+    name ∷ plain_options asked options ++ extra_words asked options ++ file_words_of line
 
 abbrev pub rebuilt : FormatsAsked → Line → List (List ℕ)
 rebuilt asked line = rebuilt_from asked line line.words
@@ -119,6 +142,7 @@ abbrev pub rebuilds : FormatsAsked → List (List ℕ) → Bool
 rebuilds Own words = false
 rebuilds ImproveAiger words = true
 rebuilds (Compare pair) words = names_format words
+rebuilds (Match pair) words = true
 
 abbrev pub plain_in : FormatsAsked → List (List ℕ) → Line → List (List ℕ)
 plain_in asked words line = if rebuilds asked line.words then rebuilt asked line else words
@@ -127,8 +151,8 @@ abbrev pub plain_on : Option Line → List (List ℕ) → List (List ℕ)
 plain_on None words = words
 plain_on (Some line) words = plain_in (asked_in line.words line.operands) words line
 
--- The words that mean the same to a program that knows none of these formats: without `--format`; for `improve` of
--- AIGER with `--format blif`, and with the basis `u2` if none is named. Other words stay as they are.
+-- The words that mean the same to a program that knows none of these formats, and compares as is asked: without
+-- `--format` and `--match names`; for `improve` of AIGER with `--format blif`, and with the basis `u2` if none is named. Other words stay as they are.
 -- Example: of `improve --format aiger --cap 4 a` they are `improve --cap 4 --format blif --basis u2 -- a`.
 abbrev pub plain_words : List (List ℕ) → List (List ℕ)
 plain_words words = plain_on (file_line words) words

@@ -4,7 +4,7 @@ ghost use Rattle.std.specs.Borrow.{Bor};
 ghost use Rattle.std.specs.Option.{option_map};
 ghost use Rattle.std.specs.String.{string_bytes};
 ghost use Rattle.command_line.specs.Options.{is_word as is_word_of};
-ghost use Rattle.command_line.specs.CommandLine.{word_after as word_after_of};
+ghost use Rattle.command_line.specs.CommandLine.{word_after as word_after_of, is_named as is_named_of};
 ghost use Rattle.format_words.specs.FormatsAsked as spec;
 
 use file_words::ends_with;
@@ -19,6 +19,8 @@ pub enum FormatsAsked {
     ImproveAiger,
     /// `equiv` of two files in these formats.
     Compare(FormatPair),
+    /// The same by the names of inputs, outputs and latches.
+    Match(FormatPair),
 }
 
 /// Whether two words are the same.
@@ -143,8 +145,8 @@ fn pair_asked(options: &[String], first: &[u8], second: &[u8]) -> FormatsAsked
 }
 
 /// `equiv`, by its options and files.
-fn equiv_asked(options: &[String], files: &[String]) -> FormatsAsked
-    ensures { result ≡ spec.equiv_asked (spec.named_format (map string_bytes options.now))
+fn files_asked(options: &[String], files: &[String]) -> FormatsAsked
+    ensures { result ≡ spec.files_asked (spec.named_format (map string_bytes options.now))
         (map string_bytes files.now) }
 {
     let Some((first, others)) = files.split_first() else {
@@ -157,6 +159,55 @@ fn equiv_asked(options: &[String], files: &[String]) -> FormatsAsked
         return FormatsAsked::Own;
     }
     pair_asked(options, first.as_bytes(), second.as_bytes())
+}
+
+/// Whether options have one of this name.
+fn names(name: &[u8], options: &[String]) -> bool
+    ensures { result ≡ is_named_of name.now (map string_bytes options.now) }
+{
+    word_after(name, options).is_some()
+}
+
+/// Whether options ask for more than a comparison.
+fn asks_more(options: &[String]) -> bool
+    ensures { result ≡ spec.asks_more (map string_bytes options.now) }
+{
+    names(b"--at", options) || names(b"--formula", options) || names(b"--log", options)
+}
+
+/// Whether options ask for a comparison by names.
+fn by_names(options: &[String]) -> bool
+    ensures { result ≡ spec.by_names (map string_bytes options.now) }
+{
+    match word_after(b"--match", options) {
+        None => false,
+        Some(word) => is_word(word, b"names") && !asks_more(options),
+    }
+}
+
+/// A comparison by names, if that is asked.
+fn matched(by: bool, asked: FormatsAsked) -> FormatsAsked
+    ensures { result ≡ spec.matched by asked }
+{
+    match asked {
+        FormatsAsked::Compare(pair) => {
+            if by {
+                FormatsAsked::Match(pair)
+            } else {
+                FormatsAsked::Compare(pair)
+            }
+        }
+        FormatsAsked::Own => FormatsAsked::Own,
+        FormatsAsked::ImproveAiger => FormatsAsked::ImproveAiger,
+        FormatsAsked::Match(pair) => FormatsAsked::Match(pair),
+    }
+}
+
+/// `equiv`, by its options and files, and by names if that is asked.
+fn equiv_asked(options: &[String], files: &[String]) -> FormatsAsked
+    ensures { result ≡ spec.equiv_asked (map string_bytes options.now) (map string_bytes files.now) }
+{
+    matched(by_names(options), files_asked(options, files))
 }
 
 /// What the words of a line and its files ask for.

@@ -1,9 +1,9 @@
 //! The formats of netlists that words of the front ask for, beyond those of `command_line`: AIGER for `improve`, and
-//! any format for each of the two files of `equiv`.
+//! any format for each of the two files of `equiv`, which `--match names` compares by names.
 //!
 //! A format is named by `--format aiger`, or by the end of a file's name (`.aag`, `.aig`, `.bench`). `read_formats`
 //! says what is asked (`specs/FormatsAsked.antt`), and which words mean the same to a program that knows no such
-//! format: `--format` is left out, and `improve` of AIGER gets `--format blif`, so that the name of its file has no
+//! format: `--format` and `--match names` are left out, and `improve` of AIGER gets `--format blif`, so that the name of its file has no
 //! say, and the basis `u2` if none is named.
 //!
 //! ```text

@@ -1,5 +1,5 @@
 //! The words of a line without formats.
-ghost use Rattle.std.specs.Prelude.{◌≡◌, ◌++◌, ◌∷◌, [], map, IfOk, OnOk};
+ghost use Rattle.std.specs.Prelude.{◌≡◌, ◌++◌, ◌∷◌, [], map, codes, IfOk, OnOk};
 ghost use Rattle.std.specs.Option.{option_map};
 ghost use Rattle.std.specs.String.{string_bytes};
 ghost use Rattle.command_line.specs.CommandLine.{spelled};
@@ -31,22 +31,23 @@ pub fn push_words(alloc: Global, words: &mut Vec<String>, more: &[String]) -> Re
     Ok(())
 }
 
-/// Appends pairs of a name and a value without the first `--format`.
-#[tactic(auto, unfolding(crate::specs::FormatsAsked::without_format))]
-fn push_options(
+/// Appends pairs of a name and a value without the first pair of this name.
+#[tactic(auto, unfolding(crate::specs::FormatsAsked::without))]
+fn push_without(
     alloc: Global,
     words: &mut Vec<String>,
+    option: &[u8],
     options: &[String],
 ) -> Result<(), AllocError>
     ensures { OnOk result (map string_bytes words.new.items ≡
-        map string_bytes words.old.items ++ spec.without_format (map string_bytes options.now)) }
+        map string_bytes words.old.items ++ spec.without option.now (map string_bytes options.now)) }
 {
     let mut left = options;
     while let Some((name, after)) = left.split_first() {
         let Some((word, rest)) = after.split_first() else {
             return push_word(alloc, words, name.as_str());
         };
-        if is_word(b"--format", name.as_bytes()) {
+        if is_word(option, name.as_bytes()) {
             return push_words(alloc, words, rest);
         }
         push_word(alloc, words, name.as_str())?;
@@ -54,6 +55,38 @@ fn push_options(
         left = rest;
     }
     Ok(())
+}
+
+/// Appends the options of a comparison by names without this and without a format.
+fn push_unmatched(
+    alloc: Global,
+    words: &mut Vec<String>,
+    options: &[String],
+) -> Result<(), AllocError>
+    ensures { OnOk result (map string_bytes words.new.items ≡ map string_bytes words.old.items ++
+        spec.without (codes "--format") (spec.without (codes "--match") (map string_bytes options.now))) }
+{
+    let mut bare = Vec::new(alloc);
+    push_without(alloc, &mut bare, b"--match", options)?;
+    push_without(alloc, words, b"--format", &bare)
+}
+
+/// Appends the options without those that are read here.
+fn push_options(
+    alloc: Global,
+    words: &mut Vec<String>,
+    asked: FormatsAsked,
+    options: &[String],
+) -> Result<(), AllocError>
+    ensures { OnOk result (map string_bytes words.new.items ≡
+        map string_bytes words.old.items ++ spec.plain_options asked (map string_bytes options.now)) }
+{
+    match asked {
+        FormatsAsked::Match(_) => push_unmatched(alloc, words, options),
+        FormatsAsked::Own | FormatsAsked::ImproveAiger | FormatsAsked::Compare(_) => {
+            push_without(alloc, words, b"--format", options)
+        }
+    }
 }
 
 /// Appends a name and its value, if there is one.
@@ -123,7 +156,7 @@ fn push_extra(
 {
     match asked {
         FormatsAsked::ImproveAiger => push_aiger(alloc, words, options),
-        FormatsAsked::Own | FormatsAsked::Compare(_) => Ok(()),
+        FormatsAsked::Own | FormatsAsked::Compare(_) | FormatsAsked::Match(_) => Ok(()),
     }
 }
 
@@ -140,7 +173,7 @@ pub(crate) fn rebuilt(
         return Ok(words);
     };
     push_word(alloc, &mut words, name.as_str())?;
-    push_options(alloc, &mut words, options)?;
+    push_options(alloc, &mut words, asked, options)?;
     push_extra(alloc, &mut words, asked, options)?;
     push_files(alloc, &mut words, line)?;
     Ok(words)
@@ -164,5 +197,6 @@ pub(crate) fn rebuilds(asked: FormatsAsked, words: &[String]) -> bool
         FormatsAsked::Own => false,
         FormatsAsked::ImproveAiger => true,
         FormatsAsked::Compare(_) => names_format(words),
+        FormatsAsked::Match(_) => true,
     }
 }

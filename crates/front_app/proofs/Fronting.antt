@@ -22,6 +22,7 @@ use Rattle.front_guide.specs.Guided.{IsGuided}
 use Rattle.format_names.specs.declared.formats.NetFormat.{NetFormat}
 use Rattle.format_names.specs.declared.formats.FormatPair.{FormatPair}
 use Rattle.chain_app.specs.KeepsPromises.{KeepsPromises}
+use Rattle.front_app.specs.declared.formats.CompareBy.{CompareBy}
 use Rattle.front_app.specs.Comparison.{pair_of, KeepsComparison}
 use Rattle.front_app.specs.Named.{KeepsNamed}
 use Rattle.front_app.specs.Fronted.{formats_of, promises_of, IsFormatted, IsWishedOr, IsFrontedBy, IsFronted}
@@ -57,12 +58,12 @@ other_words words found plain asked files source out note status a w some guided
 pair_whole : (formats : FormatPair) → pair_of formats.first formats.second ≡ formats
 pair_whole formats = refl
 
-pub in_first : (formats : FormatPair) (first : NetFormat) (words : List (List ℕ)) (files : Files) (source out note : Pass) (status : Status) →
+pub in_first : (way : CompareBy) (formats : FormatPair) (first : NetFormat) (words : List (List ℕ)) (files : Files) (source out note : Pass) (status : Status) →
     formats.first ≡ first →
-    IsGuided (pair_of first formats.second) (promised_by KeepsPromises KeepsNamed (KeepsComparison (pair_of first formats.second))) (front_run words files source out note status) →
-    IsGuided formats (promised_by KeepsPromises KeepsNamed (KeepsComparison formats)) (front_run words files source out note status)
-in_first formats first words files source out note status is guided =
-    subst (λ (p : FormatPair). IsGuided p (promised_by KeepsPromises KeepsNamed (KeepsComparison p)) (front_run words files source out note status))
+    IsGuided (pair_of first formats.second) (promised_by KeepsPromises KeepsNamed (KeepsComparison way (pair_of first formats.second))) (front_run words files source out note status) →
+    IsGuided formats (promised_by KeepsPromises KeepsNamed (KeepsComparison way formats)) (front_run words files source out note status)
+in_first way formats first words files source out note status is guided =
+    subst (λ (p : FormatPair). IsGuided p (promised_by KeepsPromises KeepsNamed (KeepsComparison way p)) (front_run words files source out note status))
     (ap (λ (x : NetFormat). pair_of x formats.second) (sym is) ∙ pair_whole formats) guided
 
 pub ruleset fronting = (common_steps, no_memory)

@@ -4,7 +4,7 @@ use Rattle.command_line.specs.declared.command.Command.{Command}
 use Rattle.command_line.specs.CommandLine.{command_of}
 use Rattle.format_names.specs.declared.formats.FormatPair.{FormatPair}
 use Rattle.format_words.specs.declared.asking.FormatsAsked.{FormatsAsked}
-use Rattle.format_words.specs.declared.asking.FormatsAsked.TheVariants.{Own, ImproveAiger, Compare}
+use Rattle.format_words.specs.declared.asking.FormatsAsked.TheVariants.{Own, ImproveAiger, Compare, Match}
 use Rattle.format_words.specs.FormatsAsked.{asked_of, plain_words}
 use Rattle.frame_core.specs.declared.status.Status.TheVariants.{Memory}
 use Rattle.frame_core.specs.Reported.{memory}
@@ -13,21 +13,25 @@ use Rattle.front_guide.specs.Guided.{IsGuided}
 use Rattle.front_wish.specs.AskedWishes.{Wish, wish_of}
 use Rattle.front_wish.specs.WishRuns.{IsWishServed}
 use Rattle.chain_app.specs.KeepsPromises.{KeepsPromises}
+use Rattle.front_app.specs.declared.formats.CompareBy.TheVariants.{Order, Names}
 use Rattle.front_app.specs.Comparison.{blif_pair, KeepsComparison}
 use Rattle.front_app.specs.Named.{KeepsNamed}
 use Rattle.front_app.specs.Aiger.{KeepsAiger}
 
--- What is promised: of `improve` over AIGER, of a comparison of two files in their formats, and of anything else.
+-- What is promised: of `improve` over AIGER, of a comparison of two files in their formats, by order or by names, and of
+-- anything else.
 abbrev pub promises_of : FormatsAsked → Promises
-promises_of Own = promised_by KeepsPromises KeepsNamed (KeepsComparison blif_pair)
-promises_of ImproveAiger = promised_by KeepsAiger KeepsAiger (KeepsComparison blif_pair)
-promises_of (Compare formats) = promised_by KeepsPromises KeepsNamed (KeepsComparison formats)
+promises_of Own = promised_by KeepsPromises KeepsNamed (KeepsComparison Order blif_pair)
+promises_of ImproveAiger = promised_by KeepsAiger KeepsAiger (KeepsComparison Order blif_pair)
+promises_of (Compare formats) = promised_by KeepsPromises KeepsNamed (KeepsComparison Order formats)
+promises_of (Match formats) = promised_by KeepsPromises KeepsNamed (KeepsComparison Names formats)
 
 -- the formats of two netlists that are read
 abbrev pub formats_of : FormatsAsked → FormatPair
 formats_of Own = blif_pair
 formats_of ImproveAiger = blif_pair
 formats_of (Compare formats) = formats
+formats_of (Match formats) = formats
 
 -- a run with other words
 abbrev pub with_words : List (List ℕ) → FrontRun → FrontRun

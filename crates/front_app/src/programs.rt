@@ -6,10 +6,11 @@ ghost use Rattle.frame_core.specs.Run.{before_after};
 ghost use Rattle.front_app.specs.Comparison.{KeepsComparison};
 
 use crate::aiger::run_aiger;
-use crate::formats::KnownFormat;
+use crate::formats::{CompareBy, KnownFormat, KnownWay};
 use crate::named::run_named;
 use cdcl_core::Cdcl;
 use cmd_formats::EquivFormats;
+use cmd_match::EquivMatched;
 use format_names::{FormatPair, NetFormat};
 use frame_core::{AtOnce, Status, perform};
 use front_core::Program;
@@ -23,6 +24,7 @@ use std::marker::PhantomData;
 #[tactic(auto, using(crate::proofs::Comparing::comparing))]
 fn compare_in<S: Source, O: Sink, N: Sink, T: Tell>(
     alloc: Global,
+    way: CompareBy,
     formats: FormatPair,
     budget: u32,
     text: &[u8],
@@ -33,31 +35,47 @@ fn compare_in<S: Source, O: Sink, N: Sink, T: Tell>(
 ) -> Status
     requires budget { IsBudget budget }
     requires within { length text.now ≤ most_of_netlist }
-    ensures { KeepsComparison formats budget text.now
+    ensures { KeepsComparison way formats budget text.now
         (before_after S.left S.faults source.old source.new)
         (before_after O.written O.faults out.old out.new)
         (before_after N.written N.faults note.old note.new)
         result }
 {
-    let job = AtOnce(EquivFormats {
-        formats,
-        first: text,
-        budget,
-        solver: PhantomData::<Cdcl>,
-        tell,
-    });
-    perform(alloc, &job, source, out, note)
+    let solver = PhantomData::<Cdcl>;
+    match way {
+        CompareBy::Order => {
+            let job = AtOnce(EquivFormats {
+                formats,
+                first: text,
+                budget,
+                solver,
+                tell,
+            });
+            perform(alloc, &job, source, out, note)
+        }
+        CompareBy::Names => {
+            let job = AtOnce(EquivMatched {
+                formats,
+                first: text,
+                budget,
+                solver,
+                tell,
+            });
+            perform(alloc, &job, source, out, note)
+        }
+    }
 }
 
-/// The program without files, who is told of its progress, and the formats of the netlists that it compares.
+/// The program without files, who is told of its progress, and the formats of the netlists that it compares, and how.
 #[derive(Drop)]
-pub(crate) struct Strict<'a, T, F, G> {
+pub(crate) struct Strict<'a, T, F, G, M> {
     pub(crate) tell: &'a T,
     pub(crate) first: PhantomData<F>,
     pub(crate) second: PhantomData<G>,
+    pub(crate) way: PhantomData<M>,
 }
 
-impl<'a, T: Tell, F: KnownFormat, G: KnownFormat> Program for Strict<'a, T, F, G> {
+impl<'a, T: Tell, F: KnownFormat, G: KnownFormat, M: KnownWay> Program for Strict<'a, T, F, G, M> {
     ghost use Rattle.chain_app.specs.KeepsPromises.{KeepsPromises};
     ghost use Rattle.front_app.specs.Comparison.{pair_of, KeepsComparison};
     ghost use Rattle.front_app.specs.Named.{KeepsNamed};
@@ -67,7 +85,7 @@ impl<'a, T: Tell, F: KnownFormat, G: KnownFormat> Program for Strict<'a, T, F, G
     ghost keeps_named = { λ r. KeepsNamed r };
 
     ghost compares = { λ budget text source out note status.
-        KeepsComparison (pair_of F.named G.named) budget text source out note status };
+        KeepsComparison M.way (pair_of F.named G.named) budget text source out note status };
 
     fn run<S: Source, O: Sink, N: Sink>(
         &self,
@@ -105,11 +123,21 @@ impl<'a, T: Tell, F: KnownFormat, G: KnownFormat> Program for Strict<'a, T, F, G
             first: F::format(),
             second: G::format(),
         };
-        compare_in(alloc, formats, budget, text, source, out, note, self.tell)
+        compare_in(
+            alloc,
+            M::compares_by(),
+            formats,
+            budget,
+            text,
+            source,
+            out,
+            note,
+            self.tell,
+        )
     }
 }
 
-impl<'a, T: Tell, F: KnownFormat, G: KnownFormat> Improves for Strict<'a, T, F, G> {
+impl<'a, T: Tell, F: KnownFormat, G: KnownFormat, M: KnownWay> Improves for Strict<'a, T, F, G, M> {
     fn improved(&self) -> Option<NetFormat> {
         None
     }
@@ -123,6 +151,7 @@ pub(crate) struct OverAiger<'a, T> {
 
 impl<'a, T: Tell> Program for OverAiger<'a, T> {
     ghost use Rattle.front_app.specs.Aiger.{KeepsAiger};
+    ghost use Rattle.front_app.specs.declared.formats.CompareBy.TheVariants.{Order};
     ghost use Rattle.front_app.specs.Comparison.{blif_pair, KeepsComparison};
 
     ghost keeps = { λ r. KeepsAiger r };
@@ -130,7 +159,7 @@ impl<'a, T: Tell> Program for OverAiger<'a, T> {
     ghost keeps_named = { λ r. KeepsAiger r };
 
     ghost compares = { λ budget text source out note status.
-        KeepsComparison blif_pair budget text source out note status };
+        KeepsComparison Order blif_pair budget text source out note status };
 
     fn run<S: Source, O: Sink, N: Sink>(
         &self,
@@ -167,7 +196,17 @@ impl<'a, T: Tell> Program for OverAiger<'a, T> {
             first: NetFormat::Blif,
             second: NetFormat::Blif,
         };
-        compare_in(alloc, formats, budget, text, source, out, note, self.tell)
+        compare_in(
+            alloc,
+            CompareBy::Order,
+            formats,
+            budget,
+            text,
+            source,
+            out,
+            note,
+            self.tell,
+        )
     }
 }
 

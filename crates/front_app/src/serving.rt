@@ -6,11 +6,12 @@ ghost use Rattle.file_io.specs.Files.{files_before_after};
 ghost use Rattle.front_core.specs.Front.{front_run, promised_by};
 ghost use Rattle.front_guide.specs.Guided.{IsGuided};
 ghost use Rattle.front_app.specs.Aiger.{KeepsAiger};
+ghost use Rattle.front_app.specs.declared.formats.CompareBy.TheVariants.{Order};
 ghost use Rattle.front_app.specs.Comparison.{pair_of, blif_pair, KeepsComparison};
 ghost use Rattle.front_app.specs.Fronted.{formats_of, promises_of, IsFormatted, IsWishedOr, IsFronted};
 ghost use Rattle.front_app.specs.Named.{KeepsNamed};
 
-use crate::formats::{InAiger, InBench, InBlif, KnownFormat};
+use crate::formats::{ByNames, ByOrder, InAiger, InBench, InBlif, KnownFormat, KnownWay};
 use crate::programs::{OverAiger, Strict};
 use command_line::read_words;
 use file_io::Outside;
@@ -30,6 +31,7 @@ use std::marker::PhantomData;
 fn guide_pair<
     F: KnownFormat,
     G: KnownFormat,
+    M: KnownWay,
     W: Outside,
     S: Recalls,
     O: Sink,
@@ -47,7 +49,7 @@ fn guide_pair<
     tell: &T,
 ) -> Status
     ensures { IsGuided (pair_of F.named G.named)
-        (promised_by KeepsPromises KeepsNamed (KeepsComparison (pair_of F.named G.named)))
+        (promised_by KeepsPromises KeepsNamed (KeepsComparison M.way (pair_of F.named G.named)))
         (front_run (spelled words.now)
         (files_before_after W.holds W.faults outside.old outside.new)
         (before_after S.left S.faults source.old source.new)
@@ -59,6 +61,7 @@ fn guide_pair<
         tell,
         first: PhantomData::<F>,
         second: PhantomData::<G>,
+        way: PhantomData::<M>,
     };
     let formats = FormatPair {
         first: F::format(),
@@ -70,7 +73,16 @@ fn guide_pair<
 }
 
 /// The same, by the second format.
-fn guide_second<F: KnownFormat, W: Outside, S: Recalls, O: Sink, N: Retells, R: Rereads, T: Tell>(
+fn guide_second<
+    F: KnownFormat,
+    M: KnownWay,
+    W: Outside,
+    S: Recalls,
+    O: Sink,
+    N: Retells,
+    R: Rereads,
+    T: Tell,
+>(
     alloc: Global,
     second: NetFormat,
     words: &Vec<String>,
@@ -82,7 +94,7 @@ fn guide_second<F: KnownFormat, W: Outside, S: Recalls, O: Sink, N: Retells, R: 
     tell: &T,
 ) -> Status
     ensures { IsGuided (pair_of F.named second)
-        (promised_by KeepsPromises KeepsNamed (KeepsComparison (pair_of F.named second)))
+        (promised_by KeepsPromises KeepsNamed (KeepsComparison M.way (pair_of F.named second)))
         (front_run (spelled words.now)
         (files_before_after W.holds W.faults outside.old outside.new)
         (before_after S.left S.faults source.old source.new)
@@ -91,20 +103,20 @@ fn guide_second<F: KnownFormat, W: Outside, S: Recalls, O: Sink, N: Retells, R: 
         result) }
 {
     match second {
-        NetFormat::Blif => guide_pair::<F, InBlif, W, S, O, N, R, T>(
+        NetFormat::Blif => guide_pair::<F, InBlif, M, W, S, O, N, R, T>(
             alloc, words, outside, source, out, note, reader, tell,
         ),
-        NetFormat::Bench => guide_pair::<F, InBench, W, S, O, N, R, T>(
+        NetFormat::Bench => guide_pair::<F, InBench, M, W, S, O, N, R, T>(
             alloc, words, outside, source, out, note, reader, tell,
         ),
-        NetFormat::Aiger => guide_pair::<F, InAiger, W, S, O, N, R, T>(
+        NetFormat::Aiger => guide_pair::<F, InAiger, M, W, S, O, N, R, T>(
             alloc, words, outside, source, out, note, reader, tell,
         ),
     }
 }
 
 /// The same, by both formats.
-fn guide_formats<W: Outside, S: Recalls, O: Sink, N: Retells, R: Rereads, T: Tell>(
+fn guide_formats<M: KnownWay, W: Outside, S: Recalls, O: Sink, N: Retells, R: Rereads, T: Tell>(
     alloc: Global,
     formats: FormatPair,
     words: &Vec<String>,
@@ -115,7 +127,7 @@ fn guide_formats<W: Outside, S: Recalls, O: Sink, N: Retells, R: Rereads, T: Tel
     reader: &R,
     tell: &T,
 ) -> Status
-    ensures { IsGuided formats (promised_by KeepsPromises KeepsNamed (KeepsComparison formats))
+    ensures { IsGuided formats (promised_by KeepsPromises KeepsNamed (KeepsComparison M.way formats))
         (front_run (spelled words.now)
         (files_before_after W.holds W.faults outside.old outside.new)
         (before_after S.left S.faults source.old source.new)
@@ -125,13 +137,13 @@ fn guide_formats<W: Outside, S: Recalls, O: Sink, N: Retells, R: Rereads, T: Tel
 {
     let second = formats.second;
     match formats.first {
-        NetFormat::Blif => guide_second::<InBlif, W, S, O, N, R, T>(
+        NetFormat::Blif => guide_second::<InBlif, M, W, S, O, N, R, T>(
             alloc, second, words, outside, source, out, note, reader, tell,
         ),
-        NetFormat::Bench => guide_second::<InBench, W, S, O, N, R, T>(
+        NetFormat::Bench => guide_second::<InBench, M, W, S, O, N, R, T>(
             alloc, second, words, outside, source, out, note, reader, tell,
         ),
-        NetFormat::Aiger => guide_second::<InAiger, W, S, O, N, R, T>(
+        NetFormat::Aiger => guide_second::<InAiger, M, W, S, O, N, R, T>(
             alloc, second, words, outside, source, out, note, reader, tell,
         ),
     }
@@ -148,7 +160,7 @@ fn guide_aiger<W: Outside, S: Recalls, O: Sink, N: Retells, R: Rereads, T: Tell>
     reader: &R,
     tell: &T,
 ) -> Status
-    ensures { IsGuided blif_pair (promised_by KeepsAiger KeepsAiger (KeepsComparison blif_pair))
+    ensures { IsGuided blif_pair (promised_by KeepsAiger KeepsAiger (KeepsComparison Order blif_pair))
         (front_run (spelled words.now)
         (files_before_after W.holds W.faults outside.old outside.new)
         (before_after S.left S.faults source.old source.new)
@@ -186,13 +198,16 @@ fn guide_asked<W: Outside, S: Recalls, O: Sink, N: Retells, R: Rereads, T: Tell>
         result) }
 {
     match asked {
-        FormatsAsked::Own => guide_pair::<InBlif, InBlif, W, S, O, N, R, T>(
+        FormatsAsked::Own => guide_pair::<InBlif, InBlif, ByOrder, W, S, O, N, R, T>(
             alloc, words, outside, source, out, note, reader, tell,
         ),
         FormatsAsked::ImproveAiger => {
             guide_aiger(alloc, words, outside, source, out, note, reader, tell)
         }
-        FormatsAsked::Compare(formats) => guide_formats(
+        FormatsAsked::Compare(formats) => guide_formats::<ByOrder, W, S, O, N, R, T>(
+            alloc, formats, words, outside, source, out, note, reader, tell,
+        ),
+        FormatsAsked::Match(formats) => guide_formats::<ByNames, W, S, O, N, R, T>(
             alloc, formats, words, outside, source, out, note, reader, tell,
         ),
     }

@@ -15,6 +15,9 @@ const CONJUNCTION: &str = ".inputs a b\n.outputs y\n.names a b y\n11 1\n.end\n";
 
 const ZERO: &str = ".inputs a b\n.outputs y\n.names y\n.end\n";
 
+/// The conjunction with its inputs in the other order.
+const TURNED: &str = ".inputs b a\n.outputs y\n.names b a y\n11 1\n.end\n";
+
 /// The same conjunction in AIGER.
 const AIGER: &str = "aag 3 2 0 1 1\n2\n4\n6\n6 4 2\n";
 
@@ -30,6 +33,7 @@ const FILES: &[(&str, &str)] = &[
     ("minimum", CERTIFICATE),
     ("a.blif", CONJUNCTION),
     ("b.blif", ZERO),
+    ("c.blif", TURNED),
     ("a.aag", AIGER),
     ("x.bench", AIGER),
 ];

@@ -17,7 +17,7 @@ use Rattle.gen_core.specs.Generated.{name_of, block_inputs, block_outputs, block
 use Rattle.gen_core.proofs.BlockLaws.{of_all, of_length, of_has, of_found}
 use Rattle.gen_core.proofs.Inputs.{names_are, inputs_names, inputs_differ}
 use Rattle.gen_core.proofs.Tables.{all_layered, all_spelled, block_few, all_narrow, tables_cheap, output_driven}
-use Rattle.net_theory.specs.Limits.{most_gates}
+use Rattle.net_theory.specs.Limits.{default_gates}
 use Rattle.settings.specs.Limits.{most_blocks}
 
 outputs_names : (n : ℕ) → n ≤ 2 ^ 64 → All IsName (of_blocks block_outputs n)
@@ -79,7 +79,7 @@ used_is n m low there =
 
 -- ---- the document
 
-cost_low : (n : ℕ) → n ≤ most_blocks → cost (generated n) ≤ most_gates
+cost_low : (n : ℕ) → n ≤ most_blocks → cost (generated n) ≤ default_gates
 unfolding cost generated
 cost_low n few = omega (arith, tables_cheap (tables_of n) (all_narrow n (omega (arith, few))), of_length block_tables 4 n block_few, few)
 
@@ -113,7 +113,7 @@ well_is n few =
       latches = is.latches;
       tables = all_tables (generated n).tables is.tables;
       controls = free_is n;
-      gates = cost_low n few;
+      gates = omega (arith, cost_low n few);
       driven_once = layered_distinct (source_names (generated n)) (generated n).tables (sources_differ n low) (layers n low);
       used_driven = has_all (λ (m : Name). has (driven_names (generated n)) m ≡ true) (used_names (generated n)) (λ m there. used_is n m low there);
       acyclic = layered_acyclic (generated n) (sources_differ n low) (layers n low);
@@ -122,4 +122,9 @@ well_is n few =
 pub is_netlist : ((d : Document) → IsBlifSpelling d → AreControlsFree d → IsReadBack blif_format (spelled d) d) → (n : ℕ) → n ≤ most_blocks → IsNetlist blif_format (generated_text n)
 is_netlist read n few =
     let back = read (generated n) (spelled_is n (omega (arith, few))) (free_is n) in
-    record { listed = back.listed; said = back.said; well = subst IsWellFormed (sym back.document) (well_is n few) }
+    record {
+      listed = back.listed;
+      said = back.said;
+      within = subst (λ (d : Document). cost d ≤ default_gates) (sym back.document) (cost_low n few);
+      well = subst IsWellFormed (sym back.document) (well_is n few);
+    }

@@ -146,6 +146,12 @@ const LINES: &[(Subject, &str, &str, &str)] = &[
     ),
     (
         Subject::Pair,
+        "error: Second NoLatch q",
+        NETLIST,
+        "b: q: a latch with this output, as the other netlist has one\n",
+    ),
+    (
+        Subject::Pair,
         "error: SourceCount 3",
         NETLIST,
         "a: 3 inputs and latches; --at has one bit for each of them\n",

@@ -124,6 +124,18 @@ const WRONG: &[(&str, &str)] = &[
         "batsokemi: with --at equiv reads two files (batsokemi help equiv)\n",
     ),
     (
+        "equiv --match order a b",
+        "batsokemi: --match takes names, and not 'order' (batsokemi help equiv)\n",
+    ),
+    (
+        "equiv --match names --formula f a b",
+        "batsokemi: --match compares two files alone, without --formula (batsokemi help equiv)\n",
+    ),
+    (
+        "equiv --match names a",
+        "batsokemi: with --match equiv reads two files (batsokemi help equiv)\n",
+    ),
+    (
         "synth --size 7 --max 5",
         "batsokemi: --size is at most --max (batsokemi help synth)\n",
     ),

@@ -143,6 +143,18 @@ const EQUIV: &[Rule] = &[
         says: b"with --at equiv reads two files",
     },
     Rule {
+        breach: Breach::Both(b"--match", b"--at"),
+        says: b"--match compares two files alone, without --at",
+    },
+    Rule {
+        breach: Breach::Both(b"--match", b"--formula"),
+        says: b"--match compares two files alone, without --formula",
+    },
+    Rule {
+        breach: Breach::Few(b"--match"),
+        says: b"with --match equiv reads two files",
+    },
+    Rule {
         breach: Breach::Alone(b"--log", b"--formula"),
         says: b"",
     },

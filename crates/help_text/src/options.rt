@@ -277,7 +277,7 @@ const IMPROVE: &[Row] = &[
         value: b"yes or no",
         allowed: YES_OR_NO,
         default: Default::Word(b"no"),
-        says: b"of BLIF and BENCH: all gates are over --basis; first each gate of another operator becomes gates over it",
+        says: b"of BLIF and BENCH: all gates are over --basis; others are first made of gates over it",
     },
     Row {
         name: b"--levels",
@@ -346,6 +346,13 @@ const EQUIV: &[Row] = &[
         allowed: Allowed::Bits,
         default: Default::Nothing,
         says: b"no comparison: the values in both netlists where the inputs and then the latches have these bits",
+    },
+    Row {
+        name: b"--match",
+        value: b"names",
+        allowed: Allowed::Words(&[b"names"]),
+        default: Default::Nothing,
+        says: b"inputs, outputs and latches of two files correspond by their names, in any order",
     },
     Row {
         name: b"--format",

@@ -263,11 +263,16 @@ which the first ends with `.end`.
 
   equal              they are equivalent; an LRAT refutation of their miter follows, and `done`
   differ output Y    output Y differs (or `differ latch Q`) where the inputs and latches have the values
-                     of the next line, `at BITS`
+                     of the next line, `at BITS`; of two files `differ output Y: 0 and 1` follows on
+                     standard error, with the values in both, and `A=1` for each input and latch
   undecided          the budget was spent; the learnt clauses follow
 
 The error `DifferentInterface`: inputs, outputs and clocks, in order, and each latch's output, control and
 initial value must be the same.
+
+With --match names the inputs, outputs and latches of two files are compared by their names, in any order.
+The error `Second NoInput A` (or `First`, `NoOutput`, `NoLatch`): a netlist lacks a name of the other. The
+error `DifferentLatches`: clocks differ, or latches of one name in control or initial value.
 
 With --formula the miter of two files in BLIF is written besides, for other programs, and with --log the
 log of `equal`; the ids of its hints are the numbers of the clauses. The netlists are then compared once
@@ -284,6 +289,7 @@ Examples:
   batsokemi equiv in.blif out.blif
   batsokemi equiv --formula two.cnf --log two.lrat in.blif out.blif
   batsokemi equiv --at 0110 in.blif out.blif
+  batsokemi equiv --match names in.blif out.aig
 ";
 
 const GEN: &[u8] = b"batsokemi gen --blocks N [--run improve]

@@ -38,8 +38,8 @@ pub record IsBetter (f : Format) (s : ImproveSettings) (c k : Circuit) (before a
 
 -- ---- texts
 
--- The bytes list a well-formed document. The text is that of a proper circuit with its model, which is
--- equivalent to the document, and whose net is the document's net improved by the settings. The text lists a
+-- The bytes list a well-formed document within the limit of gates. The text is that of a proper circuit with its model,
+-- which is equivalent to the document, and whose net is the document's net improved by the settings. The text lists a
 -- well-formed document again, which is equivalent to the first one: the outputs and the next states are the
 -- same under every assignment. The numbers are the costs of the two documents, and the second is no more than
 -- the first.
@@ -47,6 +47,7 @@ pub record IsImproved (f : Format) (s : ImproveSettings) (bytes text : List ℕ)
     (settled : Bool) (undecided : List Undecided) : Type 0 where
   pub read : Listed
   pub said : f.listed bytes ≡ Ok read
+  pub within : cost read.document ≤ f.most
   pub well : IsWellFormed read.document
   pub proper : IsProper circuit
   pub model : read.document.model ≡ circuit.model

@@ -11,6 +11,7 @@ use Rattle.net_theory.specs.Circuit.{Circuit, IsProper}
 use Rattle.net_theory.specs.ExchangeLaws.{exchanged_proper}
 use Rattle.net_document.specs.Format.{Format, IsNetlist, IsCircuitOfText, CanOperate, IsFormat}
 use Rattle.net_document.specs.EquivalenceLaws.{equivalent_same, equivalent_exchanged, describes_equivalent}
+use Rattle.net_document.specs.FormatLaws.{text_within, own_limit}
 use Rattle.net_core.specs.declared.error.NetError.{NetError}
 use Rattle.net_core.specs.declared.error.NetError.TheVariants.{Memory}
 use Rattle.net_core.specs.Names.{HasRoomForNames}
@@ -74,6 +75,7 @@ improved_is f Can s bytes c k before after settled named format is better can =
     record {
       read = is.listed;
       said = is.said;
+      within = text_within f bytes c is;
       well = is.well;
       proper = better.proper;
       model = is.circuit.model ∙ better.model;
@@ -105,7 +107,7 @@ pub writable : (f : Format) (Can : Circuit → Type 0) (s : ImproveSettings) (by
     k ≡ record c { net = k.net } → IsImprovementBy s c.net k.net settled named → HasRoomForNames k → Can k
 writable f Can s bytes c k settled named format is fits same left room =
     let before : HasRoomForNames c = subst HasRoomForNames same room in
-    subst Can (sym same) (format.exchanged c k.net (format.kept bytes c is before) left.cleaned_up.implements (can_operate f s c.net k.net fits left.operators))
+    subst Can (sym same) (format.exchanged c k.net (format.kept f.most bytes c (own_limit f bytes c is) before) left.cleaned_up.implements (can_operate f s c.net k.net fits left.operators))
 
 -- If another format has the same costs, the circuit is improved there too.
 pub better_there : (f g : Format) (s : ImproveSettings) (c k : Circuit) (before after : ℕ) (settled : Bool)

@@ -91,14 +91,15 @@ pub record IsTextBy (f : Format) (Can : Circuit → Type 0) (s : ImproveSettings
 
 -- ---- texts
 
--- The bytes list a well-formed document, whose net was improved, or with `--only yes` that of an equivalent circuit
--- over the basis. The text is that of a proper circuit with the document's model, which is equivalent to it, has no more
+-- The bytes list a well-formed document within the limit of gates, whose net was improved, or with `--only yes` that of
+-- an equivalent circuit over the basis. The text is that of a proper circuit with the document's model, which is equivalent to it, has no more
 -- gates than what was improved, and has what is wished of levels. The text lists a well-formed document again, which is
 -- equivalent to the first one, and over the basis if that is wished. The report has the gates and the levels of both
 -- nets.
 pub record IsWished (f : Format) (s : ImproveSettings) (w : Wishes) (bytes text report : List ℕ) : Type 0 where
   pub read : Listed
   pub said : f.listed bytes ≡ Ok read
+  pub within : cost read.document ≤ f.most
   pub well : IsWellFormed read.document
   pub first : Net
   pub first_is : net_of read.document ≡ Some first

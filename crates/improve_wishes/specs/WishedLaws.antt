@@ -20,6 +20,7 @@ use Rattle.net_theory.specs.Operators.{HasOperatorsWithin}
 use Rattle.net_core.specs.Names.{HasRoomForNames}
 use Rattle.net_document.specs.Format.{Format, IsCircuitOfText, CanOperate, IsFormat}
 use Rattle.net_document.specs.EquivalenceLaws.{equivalent_same, describes_equivalent}
+use Rattle.net_document.specs.FormatLaws.{text_within, own_limit}
 use Rattle.blif_core.specs.Blif.{blif_format, CanWriteBlif}
 use Rattle.bench_core.specs.Bench.{bench_format}
 use Rattle.bench_core.specs.Gates.{first_source}
@@ -205,7 +206,8 @@ pub base_can : (f : Format) (Can : Circuit → Type 0) (only : Bool) (s : Improv
     (c b : Circuit) → IsFormat f Can → KeepsWriting Can only s → IsCircuitOfText f bytes c → IsBase only s c b →
     CanIfRoom Can b
 base_can f Can only s bytes c b format keeps is base =
-    λ room. keeps c b base (format.kept bytes c is (subst HasRoomForNames base.same room))
+    λ room. keeps c b base (format.kept f.most bytes c (own_limit f bytes c is)
+    (subst HasRoomForNames base.same room))
 
 -- ---- texts
 
@@ -239,6 +241,7 @@ wished f Can s w bytes text report c b format writes is base by =
     record {
       read = is.listed;
       said = is.said;
+      within = text_within f bytes c is;
       well = is.well;
       first = c.net;
       first_is = is.circuit.net;

@@ -1,5 +1,5 @@
 -- The circuit of a listed document, and combinational loops.
-use Rattle.std.proofs.Common.{◌≡◌, ℕ, ◌+◌, ◌<◌, ◌^◌, true, List, length, map, Some, None, refl, sym, subst}
+use Rattle.std.proofs.Common.{◌≡◌, ℕ, ◌+◌, ◌<◌, ◌≤◌, ◌^◌, true, List, length, map, Some, None, refl, sym, subst}
 use Rattle.std.specs.Prelude.{slice_get}
 use Rattle.std.proofs.lemmas.Grind.{common_steps}
 use Rattle.std.proofs.lemmas.Option.{slice_get_within}
@@ -42,11 +42,11 @@ no_cyclic d none is = let leads = no_order (graph_of d.tables) (graph_closed d) 
 pub order_good : (d : Document) (order : List ℕ) → order_of (graph_of d.tables) ≡ Some order → IsTopologicalOrder (graph_of d.tables) order
 order_good d order e = order_is (graph_of d.tables) order (graph_closed d) e
 
-pub circuit_good : (l : Listed) (order : List ℕ) (c : Circuit) → IsWellListed l → AreControlsFree l.document →
-    fault_of l ≡ None → source_count l.document + most_gates < 2 ^ 31 →
+pub circuit_good : (most : ℕ) (l : Listed) (order : List ℕ) (c : Circuit) → most ≤ most_gates → IsWellListed l →
+    AreControlsFree l.document → fault_of most l ≡ None → source_count l.document + most_gates < 2 ^ 31 →
     order_of (graph_of l.document.tables) ≡ Some order → c ≡ circuit_of l.document (net_in_order l.document order) →
     IsCircuitOf l.document c
-circuit_good l order c is free none small e same =
-    subst (λ (x : Circuit). IsCircuitOf l.document x) (sym same) (circuit_is l.document order (listed_well l order is free none e) e small)
+circuit_good most l order c low is free none small e same =
+    subst (λ (x : Circuit). IsCircuitOf l.document x) (sym same) (circuit_is l.document order (listed_well most l order low is free none e) e small)
 
 pub ruleset circuits = (common_steps, listed_well, outputs_distinct, order_good, circuit_good, length-graph_of)

@@ -1,17 +1,19 @@
 -- The contracts of the parts of the elaboration.
-use Rattle.std.specs.Prelude.{◌≡◌, ℕ, ◌+◌, ◌<◌, ◌^◌, if◌then◌else◌, List, [], ◌∷◌, length, Option, Some, None, take}
+use Rattle.std.specs.Prelude.{◌≡◌, ℕ, ◌+◌, ◌<◌, ◌≤◌, ◌^◌, if◌then◌else◌, List, [], ◌∷◌, length, Option, Some, None, take}
 use Rattle.std.specs.List.{filter_map}
 use Rattle.net_theory.specs.declared.data.Sig.{Sig}
 use Rattle.net_theory.specs.declared.data.Gate.{Gate}
 use Rattle.net_theory.specs.Net.{Net, IsSigBelow, end_of}
 use Rattle.net_theory.specs.Cover.{Cover, IsCover}
-use Rattle.net_theory.specs.Cost.{cover_cost, merged_table}
+use Rattle.net_theory.specs.Cost.{cost, cover_cost, merged_table}
 use Rattle.net_theory.specs.Document.{Name, is_same, Table, Document}
 use Rattle.net_theory.specs.NetOf.{Signals, Growth, graph_of, source_count}
 use Rattle.net_theory.specs.NetLaws.{IsGrowth}
 use Rattle.net_theory.specs.Dependence.{IsFirstCyclic}
 use Rattle.net_core.specs.declared.error.NetError.{NetError}
 use Rattle.net_core.specs.declared.error.NetError.TheVariants.{Memory, Cycle}
+use Rattle.net_document.specs.Listed.{Listed}
+use Rattle.net_document.specs.Refusals.{fault_of, IsRefusedListing}
 use Rattle.graph_core.specs.Visit.{Graph}
 use Rattle.graph_core.specs.VisitLaws.{IsFinishOrder}
 
@@ -58,3 +60,10 @@ abbrev pub IsCyclicError : Document → NetError → Type 0
 IsCyclicError d Memory = Unit {0}
 IsCyclicError d (Cycle name) = IsFirstCyclic d name
 IsCyclicError d e = ⊥
+
+-- Within each limit of gates, the document has no fault; or it is refused with this error.
+abbrev pub IsFaultless : Listed → Type 0
+IsFaultless l = (most : ℕ) → cost l.document ≤ most → fault_of most l ≡ None
+
+abbrev pub IsRefusedBelow : Listed → NetError → Type 0
+IsRefusedBelow l e = (most : ℕ) → cost l.document ≤ most → IsRefusedListing most l e

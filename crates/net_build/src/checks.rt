@@ -4,13 +4,12 @@ ghost use Rattle.std.specs.Prelude.{◌≡◌, ◌<◌, ◌≤◌, ◌^◌, [], 
 ghost use Rattle.net_theory.specs.Cost.{cost};
 ghost use Rattle.net_document.specs.Listed.{IsWellListed};
 ghost use Rattle.net_document.specs.Refusals.{repeated, missing, fault_of, IsRefusedListing};
-ghost use Rattle.net_theory.specs.Limits.{most_gates};
+ghost use Rattle.net_build.specs.Parts.{IsFaultless, IsRefusedBelow};
 
 use crate::merging::total_cost;
 use indexmap::IndexSet;
 use net_core::{Name, NetError};
 use net_document::Listed;
-use net_theory::MOST_GATES;
 use std::alloc::{AllocError, Global};
 
 /// Adds driven names to `set` and returns the first one that is already there.
@@ -63,11 +62,10 @@ fn first_undriven(
 /// Refuses an undriven name, if there is no other fault.
 #[tactic(auto, unfolding(net_document::specs::Refusals::fault_of))]
 fn check_used(driven: &IndexSet<Name>, listed: &Listed) -> Result<(), NetError>
-    requires few { cost listed.now.document ≤ most_gates }
     requires once { repeated [] listed.now.driven ≡ None }
     requires driven { driven.now.keys ≡ listed.now.driven }
-    ensures good { IfOk result (λ _. fault_of listed.now ≡ None) }
-    ensures refused { IfErr result (IsRefusedListing listed.now) }
+    ensures good { IfOk result (λ _. IsFaultless listed.now) }
+    ensures refused { IfErr result (IsRefusedBelow listed.now) }
 {
     match first_undriven(driven, &listed.used, &listed.document.outputs)? {
         Some(name) => Err(NetError::Undriven(name)),
@@ -79,10 +77,9 @@ fn check_used(driven: &IndexSet<Name>, listed: &Listed) -> Result<(), NetError>
 /// before and has the driven names after.
 #[tactic(auto, unfolding(net_document::specs::Refusals::fault_of))]
 fn check_names(driven: &mut IndexSet<Name>, listed: &Listed) -> Result<(), NetError>
-    requires few { cost listed.now.document ≤ most_gates }
     requires none { driven.old.keys ≡ [] }
-    ensures good { IfOk result (λ _. fault_of listed.now ≡ None) }
-    ensures refused { IfErr result (IsRefusedListing listed.now) }
+    ensures good { IfOk result (λ _. IsFaultless listed.now) }
+    ensures refused { IfErr result (IsRefusedBelow listed.now) }
 {
     match add_drivers(driven, &listed.driven)? {
         Some(name) => Err(NetError::DrivenTwice(name)),
@@ -90,16 +87,16 @@ fn check_names(driven: &mut IndexSet<Name>, listed: &Listed) -> Result<(), NetEr
     }
 }
 
-/// Refuses every fault other than a combinational loop.
+/// Refuses every fault other than a combinational loop: more gates than `most` first.
 #[tactic(auto, unfolding(net_document::specs::Refusals::fault_of, net_theory::specs::Cost::cost))]
-pub fn check(alloc: Global, listed: &Listed) -> Result<(), NetError>
+pub fn check(alloc: Global, listed: &Listed, most: u32) -> Result<(), NetError>
     requires listed { IsWellListed listed.now }
     requires small { cost listed.now.document < 2 ^ 32 }
-    ensures good { IfOk result (λ _. fault_of listed.now ≡ None) }
-    ensures refused { IfErr result (IsRefusedListing listed.now) }
+    ensures good { IfOk result (λ _. fault_of most listed.now ≡ None) }
+    ensures refused { IfErr result (IsRefusedListing most listed.now) }
 {
     let gates = total_cost(alloc, &listed.document.tables)?;
-    if gates > MOST_GATES {
+    if gates > most {
         return Err(NetError::TooManyGates(gates));
     }
     let mut driven = IndexSet::new(alloc);

@@ -1,6 +1,6 @@
 //! The circuit of a parsed document.
 
-ghost use Rattle.std.specs.Prelude.{◌≡◌, ℕ, ◌+◌, ◌*◌, ◌<◌, ◌^◌, List, map, length, true, Some, None, IfOk, IfErr};
+ghost use Rattle.std.specs.Prelude.{◌≡◌, ℕ, ◌+◌, ◌*◌, ◌<◌, ◌≤◌, ◌^◌, List, map, length, true, Some, None, IfOk, IfErr};
 ghost use Rattle.net_theory.specs.Document.{latch_of, are_distinct, table_output};
 ghost use Rattle.graph_core.specs.Visit.{order_of};
 ghost use Rattle.net_theory.specs.Cost.{cost};
@@ -102,36 +102,38 @@ fn ordered_net(alloc: Global, document: &Document) -> Result<Net, NetError>
     Ok(net)
 }
 
-/// The net of a document, or the error if the document isn't well formed.
+/// The net of a document, or the error if the document isn't well formed or has more gates than `most`.
 #[tactic(auto, using(crate::proofs::Wholes::circuits))]
-fn listed_net(alloc: Global, listed: &Listed) -> Result<Net, NetError>
+fn listed_net(alloc: Global, listed: &Listed, most: u32) -> Result<Net, NetError>
     requires listed { IsWellListed listed.now }
     requires free { AreControlsFree listed.now.document }
     requires small { 2 * source_count listed.now.document + cost listed.now.document < 2 ^ 31 }
     requires few { length listed.now.document.tables < 2 ^ 31 }
+    requires limit { most ≤ most_gates }
     ensures well_formed { IfOk result (λ _. IsWellFormed listed.now.document) }
     ensures circuit { IfOk result (λ net. IsCircuitOf listed.now.document (circuit_with listed.now.document net)) }
-    ensures good { IfOk result (λ _. fault_of listed.now ≡ None) }
-    ensures refused { IfErr result (IsRefusedListing listed.now) }
+    ensures good { IfOk result (λ _. fault_of most listed.now ≡ None) }
+    ensures refused { IfErr result (IsRefusedListing most listed.now) }
 {
-    check(alloc, listed)?;
+    check(alloc, listed, most)?;
     ordered_net(alloc, &listed.document)
 }
 
-/// The circuit of a document, or the first of these errors: more than 100,000 gates, a name that is driven twice,
-/// an undriven name, a combinational loop.
+/// The circuit of a document, or the first of these errors: more gates than `most`, which is at most 1,000,000, a name
+/// that is driven twice, an undriven name, a combinational loop.
 ///
 /// The order of the names in an error is that of the lists of driven and used names.
-pub fn circuit_of(alloc: Global, listed: Listed) -> Result<Circuit, NetError>
+pub fn circuit_of(alloc: Global, listed: Listed, most: u32) -> Result<Circuit, NetError>
     requires listed { IsWellListed listed }
     requires free { AreControlsFree listed.document }
     requires small { 2 * source_count listed.document + cost listed.document < 2 ^ 31 }
     requires few { length listed.document.tables < 2 ^ 31 }
+    requires limit { most ≤ most_gates }
     ensures well_formed { IfOk result (λ _. IsWellFormed listed.document) }
     ensures circuit { IfOk result (IsCircuitOf listed.document) }
-    ensures good { IfOk result (λ _. fault_of listed ≡ None) }
-    ensures refused { IfErr result (IsRefusedListing listed) }
+    ensures good { IfOk result (λ _. fault_of most listed ≡ None) }
+    ensures refused { IfErr result (IsRefusedListing most listed) }
 {
-    let net = listed_net(alloc, &listed)?;
+    let net = listed_net(alloc, &listed, most)?;
     Ok(with_net(alloc, listed.document, net)?)
 }

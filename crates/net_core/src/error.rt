@@ -18,7 +18,7 @@ pub enum NetError {
     MixedCover(u32),
     /// The table or gate has more than 256 inputs.
     TooWide(u32),
-    /// The netlist decomposes into more than 100,000 gates: their number.
+    /// The netlist decomposes into more gates than may be read: their number.
     TooManyGates(u32),
     /// The name is driven twice.
     DrivenTwice(Name),

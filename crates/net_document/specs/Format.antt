@@ -14,20 +14,27 @@ use Rattle.net_core.specs.declared.error.NetError.TheVariants.{Memory}
 use Rattle.net_document.specs.Listed.{Listed, IsWellListed}
 use Rattle.net_document.specs.Refusals.{fault_of, IsRefusedListing}
 
--- `listed` parses a text, or gives the first error of its lines; `written` is the document that the writer makes
--- of a circuit; `text` is the circuit's text; `operators` are the operators that gates may have.
+-- `listed` parses a text, or gives the first error of its lines; `most` are the most gates of a netlist that is read;
+-- `written` is the document that the writer makes of a circuit; `text` is the circuit's text; `operators` are the
+-- operators that gates may have.
 pub record Format : Type 0 where
   pub listed : List ℕ → Result Listed NetError
   pub written : Circuit → Document
   pub text : Circuit → List ℕ
   pub operators : ℕ → Bool
+  pub most : ℕ
+
+-- the format with another limit of gates
+abbrev pub up_to : ℕ → Format → Format
+up_to gates f = record f { most = gates }
 
 -- ---- texts that are read
 
--- the text is a netlist: it lists a well-formed document
+-- the text is a netlist: it lists a well-formed document within the limit of gates
 pub record IsNetlist (f : Format) (bytes : List ℕ) : Type 0 where
   pub listed : Listed
   pub said : f.listed bytes ≡ Ok listed
+  pub within : cost listed.document ≤ f.most
   pub well : IsWellFormed listed.document
 
 -- The text lists a well-formed document without faults, and `c` is its circuit: equivalent to the document, with
@@ -35,7 +42,7 @@ pub record IsNetlist (f : Format) (bytes : List ℕ) : Type 0 where
 pub record IsCircuitOfText (f : Format) (bytes : List ℕ) (c : Circuit) : Type 0 where
   pub listed : Listed
   pub said : f.listed bytes ≡ Ok listed
-  pub good : fault_of listed ≡ None
+  pub good : fault_of f.most listed ≡ None
   pub well : IsWellFormed listed.document
   pub circuit : IsCircuitOf listed.document c
 
@@ -43,7 +50,7 @@ pub record IsCircuitOfText (f : Format) (bytes : List ℕ) (c : Circuit) : Type 
 
 -- the first error of the lines, or, if they have none, the fault of the document
 abbrev pub IsReported : Format → List ℕ → NetError → Type 0
-IsReported f bytes e = (f.listed bytes ≡ Err e) ⊎ ((l : Listed) × (f.listed bytes ≡ Ok l) × IsRefusedListing l e)
+IsReported f bytes e = (f.listed bytes ≡ Err e) ⊎ ((l : Listed) × (f.listed bytes ≡ Ok l) × IsRefusedListing f.most l e)
 
 -- The error with which a text may be refused. Out of memory is possible for any text.
 abbrev pub IsRefusedText : Format → List ℕ → NetError → Type 0
@@ -65,12 +72,12 @@ pub record IsReadBack (f : Format) (bytes : List ℕ) (d : Document) : Type 0 wh
 
 -- The bytes are a text of `c`: they list the document that the writer makes of `c`. The document is well formed
 -- and without faults, has the model name of `c`, is equivalent to `c`, and costs at most as many gates as `c`
--- has.
+-- has. So it is read again where the limit of gates is no less than these.
 pub record IsTextOf (f : Format) (bytes : List ℕ) (c : Circuit) : Type 0 where
   pub listed : Listed
   pub said : f.listed bytes ≡ Ok listed
   pub document : listed.document ≡ f.written c
-  pub good : fault_of listed ≡ None
+  pub good : fault_of (length c.net.gates) listed ≡ None
   pub well : IsWellFormed listed.document
   pub model : listed.document.model ≡ c.model
   pub describes : Describes listed.document c
@@ -88,12 +95,13 @@ abbrev pub CanOperate : Format → Net → Net → Type 0
 CanOperate f n m = HasOperatorsWithin f.operators n m
 
 -- Texts are parsed within the limits. A circuit that can be written is proper, and its text is read back. The
--- circuit of every text can be written (it has fewer than 2^63 names, as every circuit that fits into memory), and
--- it still can after its net is replaced by one that implements it with operators of the format.
+-- circuit of every text can be written, whatever the limit of gates (it has fewer than 2^63 names, as every circuit
+-- that fits into memory), and it still can after its net is replaced by one that implements it with operators of
+-- the format.
 pub record IsFormat (f : Format) (CanWrite : Circuit → Type 0) : Type 0 where
   pub lists : ListsWell f
   pub proper : (c : Circuit) → CanWrite c → IsProper c
   pub read_back : (c : Circuit) → CanWrite c → IsTextOf f (f.text c) c
-  pub kept : (bytes : List ℕ) (c : Circuit) → IsCircuitOfText f bytes c → HasRoomForNames c → CanWrite c
+  pub kept : (gates : ℕ) (bytes : List ℕ) (c : Circuit) → IsCircuitOfText (up_to gates f) bytes c → HasRoomForNames c → CanWrite c
   pub exchanged : (c : Circuit) (m : Net) → CanWrite c → Implements c.net m → CanOperate f c.net m →
       CanWrite (with_net c m)

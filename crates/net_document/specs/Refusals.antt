@@ -1,12 +1,11 @@
 -- The errors that are found after a document is parsed, in the order in which they are tested and reported.
-use Rattle.std.specs.Prelude.{◌≡◌, ◌++◌, ◌∷◌, [], List, nat_lt, if◌then◌else◌, Option, Some, None}
+use Rattle.std.specs.Prelude.{◌≡◌, ℕ, ◌++◌, ◌∷◌, [], List, nat_lt, if◌then◌else◌, Option, Some, None}
 use Rattle.net_theory.specs.Document.{Name, has}
 use Rattle.net_theory.specs.Cost.{cost}
 use Rattle.net_theory.specs.Dependence.{IsFirstCyclic}
 use Rattle.net_core.specs.declared.error.NetError.{NetError}
 use Rattle.net_core.specs.declared.error.NetError.TheVariants.{Memory, TooManyGates, DrivenTwice, Undriven, Cycle}
 use Rattle.net_document.specs.Listed.{Listed}
-use Rattle.net_theory.specs.Limits.{most_gates}
 
 -- the first name that occurs earlier in the list
 -- Example: of a, b, c, b, a it is b.
@@ -27,18 +26,18 @@ abbrev pub twice_or : Option Name → Option NetError → Option NetError
 twice_or None next = next
 twice_or (Some n) next = Some (DrivenTwice n)
 
--- The first of these errors: more than 100,000 gates; the first name that is driven a second time; the first
+-- The first of these errors: more gates than `most`; the first name that is driven a second time; the first
 -- undriven name that a table or a latch reads; the first undriven output.
-unfoldable pub fault_of : Listed → Option NetError
-fault_of l = if nat_lt most_gates (cost l.document) then Some (TooManyGates (cost l.document))
+unfoldable pub fault_of : ℕ → Listed → Option NetError
+fault_of most l = if nat_lt most (cost l.document) then Some (TooManyGates (cost l.document))
     else twice_or (repeated [] l.driven) (undriven_in (missing l.driven (l.used ++ l.document.outputs)))
 
--- The document may be refused with this error. A combinational loop is reported only if there is no other fault.
--- Out of memory is always possible.
-abbrev pub IsRefusedListing : Listed → NetError → Type 0
-IsRefusedListing l Memory = Unit {0}
-IsRefusedListing l (Cycle name) = (fault_of l ≡ None) × IsFirstCyclic l.document name
-IsRefusedListing l e = fault_of l ≡ Some e
+-- The document may be refused with this error, where it may have `most` gates. A combinational loop is reported only
+-- if there is no other fault. Out of memory is always possible.
+abbrev pub IsRefusedListing : ℕ → Listed → NetError → Type 0
+IsRefusedListing most l Memory = Unit {0}
+IsRefusedListing most l (Cycle name) = (fault_of most l ≡ None) × IsFirstCyclic l.document name
+IsRefusedListing most l e = fault_of most l ≡ Some e
 
 -- the error is the fault or out of memory
 abbrev pub IsReportOf : NetError → Option NetError → Type 0

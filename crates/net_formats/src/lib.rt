@@ -13,4 +13,4 @@ mod reading;
 
 pub use format_names::{FormatPair, NetFormat};
 pub use net_core::{Circuit, NetError};
-pub use reading::read_netlist;
+pub use reading::{read_netlist, read_netlist_up_to};

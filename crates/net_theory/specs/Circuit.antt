@@ -32,7 +32,7 @@ IsControlApart outputs sources None = Unit {0}
 IsControlApart outputs sources (Some c) = has outputs c.1 ≡ true → has sources c.1 ≡ true
 
 -- A circuit that can be written: each source and sink has a name, the names of the sources are distinct,
--- outputs with the same name are the same signal, and there are at most 100,000 gates.
+-- outputs with the same name are the same signal, and there are at most 1,000,000 gates.
 pub record IsProper (c : Circuit) : Type 0 where
   pub net : IsNet c.net
   pub source_count : c.net.sources ≡ length (sources_of c)

@@ -4,7 +4,11 @@ use Rattle.std.specs.Prelude.{ℕ}
 -- The most gates of a netlist, so that nodes and the variables and clauses of formulas on two netlists have numbers
 -- of 32 bits.
 abbrev pub most_gates : ℕ
-most_gates = 100000
+most_gates = 1000000
+
+-- the most gates of a netlist that is read, where no other limit is asked for
+abbrev pub default_gates : ℕ
+default_gates = 100000
 
 -- the most inputs of a table, and operands of a gate of a `.bench` text, so that the literals of a table can be counted
 abbrev pub most_table_inputs : ℕ

@@ -40,7 +40,7 @@ IsFreeOf names None = Unit {0}
 IsFreeOf names (Some c) = has names c.1 ≡ false
 
 -- Names, tables and latches are within their limits, no table drives a control, the tables decompose into
--- at most 100,000 gates, no name is driven twice, each used name is driven, and there is no combinational
+-- at most 1,000,000 gates, no name is driven twice, each used name is driven, and there is no combinational
 -- loop.
 pub record IsWellFormed (d : Document) : Type 0 where
   pub model : IsName d.model

@@ -2,7 +2,10 @@
 
 /// The most gates of a netlist, so that nodes, and the variables and clauses of formulas on two netlists, have
 /// numbers of 32 bits.
-pub const MOST_GATES: u32 = 100_000;
+pub const MOST_GATES: u32 = 1_000_000;
+
+/// The most gates of a netlist that is read, where no other limit is asked for.
+pub const DEFAULT_GATES: u32 = 100_000;
 
 /// The most inputs of a table, and operands of a gate of a `.bench` text, so that the literals of a table can be
 /// counted.

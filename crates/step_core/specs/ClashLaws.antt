@@ -1,5 +1,5 @@
 -- Rows with equal values at the places of a set, and outputs that specify different values on two of them.
-use Rattle.std.proofs.Common.{◌≡◌, ℕ, ◌+◌, ◌^◌, ◌≤◌, ◌<◌, true, false, Bool, ◌&&◌, not, ◌==◌, List, length, refl, sym, ap, ◌∙◌, subst, arith, inl, inr}
+use Rattle.std.proofs.Common.{◌≡◌, ℕ, ◌+◌, ◌^◌, ◌<◌, true, false, Bool, not, ◌==◌, List, length, refl, sym, ap, ◌∙◌, subst, arith, inl, inr}
 use Rattle.std.specs.Prelude.{slice_index, bit_and, bit_xor}
 use Rattle.std.specs.Int.{bit_at}
 use Rattle.std.proofs.lemmas.Bool.{cases_lt, cases_Bool, and_parts, both_ways}
@@ -7,13 +7,13 @@ use Rattle.std.proofs.lemmas.Grind.{common_steps}
 use Rattle.std.proofs.lemmas.Nat.Bits.{bit_at-zero, bit_at-lt, same_from_bits}
 use Rattle.chain_theory.specs.Operator.{digit}
 use Rattle.chain_theory.specs.Chain.{Step}
-use Rattle.op_basis.specs.WordOperator.{differ, spread}
+use Rattle.op_basis.specs.WordOperator.{differ}
 use Rattle.op_basis.specs.WordOperatorLaws.{digit_and, digit_xor, digit_spread}
 use Rattle.tt_core.specs.Words.{Words, IsSpec}
 use Rattle.tt_core.specs.RowLaws.{row_below}
 use Rattle.bound_core.specs.Counts.{some_below}
 use Rattle.bound_core.specs.CountLaws.{some_passes, no_digit}
-use Rattle.step_core.specs.Steps.{word_in, is_missing}
+use Rattle.step_core.specs.Steps.{word_in}
 use Rattle.step_core.specs.Reads.{IsMissingMask, AreInConflict}
 use Rattle.step_core.specs.LoopLaws.{none_passes}
 

@@ -1,24 +1,22 @@
 -- Missing outputs are determined by the places that further steps read: on rows that have equal values there, all
 -- further steps have equal values.
-use Rattle.std.proofs.Common.{◌≡◌, ℕ, ◌+◌, ◌-◌, ◌^◌, ◌≤◌, ◌<◌, ◌⊎◌, true, false, Bool, ◌&&◌, ◌||◌, not, List, [], ◌∷◌, ◌++◌, length, refl, sym, ap, ◌∙◌, subst, arith, inl, inr}
+use Rattle.std.proofs.Common.{◌≡◌, ℕ, ◌+◌, ◌-◌, ◌≤◌, ◌<◌, true, false, Bool, ◌&&◌, ◌||◌, not, List, [], ◌∷◌, ◌++◌, length, refl, sym, ap, ◌∙◌, subst, arith, inl, inr}
 use Rattle.std.specs.Prelude.{slice_index, bit_and, bit_xor, ◌==◌}
 use Rattle.std.proofs.lemmas.Nat.Bits.{bit_at-zero}
-use Rattle.std.proofs.lemmas.Bool.{cases_lt, cases_eq, cases_Bool, or_left, or_right, both_ways}
+use Rattle.std.proofs.lemmas.Bool.{cases_lt, cases_eq, or_left, or_right, both_ways}
 use Rattle.std.proofs.lemmas.List.{length_push}
 use Rattle.chain_theory.specs.Operator.{Basis, digit, apply}
 use Rattle.chain_theory.specs.Chain.{Step, IsStepAt, AreSteps}
 use Rattle.op_basis.specs.WordOperator.{differ, on_words}
 use Rattle.op_basis.specs.WordOperatorLaws.{digit_and, digit_xor, on_words_bit}
 use Rattle.tt_core.specs.Words.{Words}
-use Rattle.step_core.specs.Steps.{misses, word_in, is_met, is_missing, meets_at}
+use Rattle.step_core.specs.Steps.{misses, word_in, is_missing, meets_at}
 use Rattle.step_core.specs.Waits.{is_at, has_read, is_later}
 use Rattle.step_core.specs.Reads.{IsFreshSolution, ReadExactly, NoneReading, AreInConflict}
 use Rattle.step_core.specs.StackLaws.{word_prefix, word_last}
-use Rattle.step_core.specs.PruningLaws.{not_true, met_some}
 use Rattle.step_core.specs.NormalSolutionLaws.{met_at}
 use Rattle.step_core.specs.OutcomeLaws.{append_one, append_nil, get_middle}
 use Rattle.step_core.specs.WordLaws.{zero_is}
-use Rattle.bound_core.specs.CountLaws.{true_false}
 use Rattle.step_core.specs.WaitLaws.{at_is, met_place}
 
 -- the word of a place has equal bits on the two rows

@@ -1,5 +1,5 @@
 -- In a least chain each step is read, or is the first with the values of some output: a chain without it would do.
-use Rattle.std.proofs.Common.{◌≡◌, ℕ, zero, suc, ◌+◌, ◌-◌, ◌≤◌, ◌<◌, ◌⊎◌, true, false, Bool, ◌&&◌, not, List, [], ◌∷◌, ◌++◌, length, refl, sym, ap, ◌∙◌, subst, arith, inl, inr, get_or}
+use Rattle.std.proofs.Common.{◌≡◌, ℕ, zero, suc, ◌+◌, ◌-◌, ◌≤◌, ◌<◌, ◌⊎◌, true, false, Bool, ◌&&◌, not, List, [], ◌∷◌, ◌++◌, length, refl, sym, ap, ◌∙◌, subst, arith, inl, inr}
 use Rattle.std.specs.Prelude.{slice_get, slice_index_or, Some}
 use Rattle.std.proofs.lemmas.Bool.{cases_Bool, cases_lt, cases_eq, both_ways}
 use Rattle.std.proofs.lemmas.Option.{get_or_from_slice_get}
@@ -14,7 +14,6 @@ use Rattle.chain_laws.specs.Bodies.{Body, Fits, fits_from, out_value_is}
 use Rattle.chain_laws.specs.Shorter.{HasFewer, unused}
 use Rattle.chain_laws.specs.Least.{levels_at_most_steps}
 use Rattle.tt_core.specs.Words.{Words, IsSpec, specification, cell_of}
-use Rattle.bound_core.specs.CountLaws.{true_false}
 use Rattle.step_core.specs.Steps.{misses, meets_at, is_met, is_missing, word_in}
 use Rattle.step_core.specs.Pruning.{meets, gives, gives_some}
 use Rattle.step_core.specs.Outs.{IsOutFor, AreOuts}

@@ -1,11 +1,11 @@
 -- A chain for the live outputs has the steps of one for all outputs: the others are trivial.
-use Rattle.std.proofs.Common.{◌≡◌, ℕ, ◌+◌, ◌-◌, ◌^◌, ◌≤◌, ◌<◌, ◌⊎◌, true, List, length, Option, Some, None, refl, sym, ap, ◌∙◌, subst, arith, inl, inr}
+use Rattle.std.proofs.Common.{◌≡◌, ℕ, ◌+◌, ◌-◌, ◌≤◌, ◌<◌, ◌⊎◌, true, List, length, Option, Some, None, refl, sym, ap, ◌∙◌, subst, arith, inl, inr}
 use Rattle.std.specs.Prelude.{slice_index, slice_index_or}
 use Rattle.std.proofs.lemmas.Bool.{cases_lt}
 use Rattle.std.proofs.lemmas.List.{get_or_default}
 use Rattle.std.proofs.lemmas.Option.{get_or_from_slice_get}
 use Rattle.chain_theory.specs.Operator.{Basis}
-use Rattle.chain_theory.specs.Chain.{Step, Chain, AreSteps, IsChain, NamesPlace}
+use Rattle.chain_theory.specs.Chain.{Chain, AreSteps, IsChain, NamesPlace}
 use Rattle.chain_theory.specs.Value.{values_on}
 use Rattle.chain_theory.specs.Agreement.{is_met as is_met_by, Agrees, HasChain, NoneBelow}
 use Rattle.chain_theory.specs.declared.data.Out.{Out}

@@ -1,21 +1,20 @@
 -- Steps read few places: in a fresh chain each further step reads one place more than it adds to those that later
 -- steps read, and two if it is the first with the values of some output.
-use Rattle.std.proofs.Common.{◌≡◌, ℕ, zero, suc, ◌+◌, ◌≤◌, ◌<◌, ◌⊎◌, true, false, Bool, cond, ◌&&◌, not, List, [], ◌∷◌, ◌++◌, length, refl, sym, ap, ◌∙◌, subst, arith, inl, inr}
-use Rattle.std.specs.Prelude.{if◌then◌else◌}
+use Rattle.std.proofs.Common.{◌≡◌, ℕ, zero, suc, ◌+◌, ◌≤◌, ◌<◌, true, false, Bool, cond, not, List, [], ◌∷◌, ◌++◌, length, refl, sym, ap, ◌∙◌, subst, arith, inl, inr}
 use Rattle.std.proofs.lemmas.Bool.{cases_Bool, cases_lt, and_parts, or_cases}
 use Rattle.std.proofs.lemmas.List.{length_push}
 use Rattle.chain_theory.specs.Operator.{Basis}
 use Rattle.chain_theory.specs.Chain.{Step}
 use Rattle.tt_core.specs.Words.{Words}
-use Rattle.bound_core.specs.Counts.{some_below, count_below}
+use Rattle.bound_core.specs.Counts.{count_below}
 use Rattle.bound_core.specs.CountLaws.{some_passes, true_false}
 use Rattle.step_core.specs.Steps.{misses, meets_at, is_met, is_missing, word_in}
 use Rattle.step_core.specs.Pruning.{meets, gives, gives_some}
 use Rattle.step_core.specs.Waits.{has_read, is_later}
-use Rattle.step_core.specs.Reads.{IsFreshSolution, ReadExactly, NoneReading, missing}
+use Rattle.step_core.specs.Reads.{IsFreshSolution, NoneReading, missing}
 use Rattle.step_core.specs.LoopLaws.{count_split, count_zero, count_more}
 use Rattle.step_core.specs.StackLaws.{word_prefix}
-use Rattle.step_core.specs.PruningLaws.{not_true, met_some}
+use Rattle.step_core.specs.PruningLaws.{met_some}
 use Rattle.step_core.specs.NormalSolutionLaws.{met_at}
 use Rattle.step_core.specs.OutcomeLaws.{append_one}
 use Rattle.step_core.specs.WaitLaws.{two_read}

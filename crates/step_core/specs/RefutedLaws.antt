@@ -1,9 +1,8 @@
 -- A size is refuted if each set of inputs is: each chain reads exactly some set.
-use Rattle.std.proofs.Common.{◌≡◌, ℕ, zero, suc, ◌+◌, ◌*◌, ◌%◌, ◌^◌, ◌≤◌, ◌<◌, true, false, Bool, ◌==◌, List, [], length, max, refl, sym, ap, ◌∙◌, subst, arith, inl, inr}
+use Rattle.std.proofs.Common.{◌≡◌, ℕ, zero, suc, ◌+◌, ◌*◌, ◌%◌, ◌^◌, ◌≤◌, ◌<◌, true, false, Bool, ◌==◌, List, [], length, refl, sym, ap, ◌∙◌, subst, arith, inl, inr}
 use Rattle.std.specs.Prelude.{bit_or}
 use Rattle.std.specs.Int.{bit_at}
-use Rattle.std.proofs.lemmas.Bool.{cases_lt, cases_Bool}
-use Rattle.std.proofs.lemmas.Grind.{common_steps}
+use Rattle.std.proofs.lemmas.Bool.{cases_lt}
 use Rattle.std.proofs.lemmas.Nat.{or_lt}
 use Rattle.std.proofs.lemmas.Nat.Bits.{bit_at_or, bit_at-lt, bit_at-pow_same, bit_at-pow_other, bit_at_above}
 use Rattle.std.proofs.Math.Pow.{pow-lt, pow_mono}
@@ -17,7 +16,7 @@ use Rattle.step_core.specs.Limits.{most_enumerated_steps}
 use Rattle.step_core.specs.Pruning.{due}
 use Rattle.step_core.specs.Waits.{is_later}
 use Rattle.step_core.specs.Enumeration.{NoneFrom}
-use Rattle.step_core.specs.Reads.{IsFreshSolution, NoneReading, NoneOfSize, IsMissingMask, IsRefuting}
+use Rattle.step_core.specs.Reads.{NoneReading, NoneOfSize, IsMissingMask, IsRefuting}
 use Rattle.step_core.specs.NormalSolutionLaws.{live_are, none_more, none_live}
 use Rattle.step_core.specs.RefutingLaws.{AllBelow}
 use Rattle.step_core.specs.FreshLaws.{fresh_of}

@@ -1,11 +1,11 @@
 -- How the refutation of a state follows from those of its branches.
-use Rattle.std.proofs.Common.{◌≡◌, ℕ, zero, suc, ◌+◌, ◌-◌, ◌^◌, ◌≤◌, ◌<◌, ◌⊎◌, true, false, Bool, ◌||◌, not, List, [], ◌∷◌, ◌++◌, length, refl, sym, ap, ◌∙◌, subst, arith, inl, inr}
-use Rattle.std.specs.Prelude.{min, take, bit_xor}
+use Rattle.std.proofs.Common.{◌≡◌, ℕ, suc, ◌+◌, ◌-◌, ◌≤◌, ◌<◌, ◌⊎◌, true, false, Bool, ◌||◌, not, List, [], ◌∷◌, ◌++◌, length, refl, sym, ap, ◌∙◌, subst, arith, inl, inr}
+use Rattle.std.specs.Prelude.{min, take}
 use Rattle.std.proofs.lemmas.Bool.{cases_lt, cases_eq, cases_Bool, or_left, or_right, or_cases, both_ways}
 use Rattle.std.proofs.lemmas.Grind.{common_steps}
 use Rattle.std.proofs.lemmas.List.{length_push}
 use Rattle.chain_theory.specs.Operator.{Basis, digit}
-use Rattle.chain_theory.specs.Chain.{Step, IsStepAt, AreSteps}
+use Rattle.chain_theory.specs.Chain.{Step, IsStepAt}
 use Rattle.chain_laws.specs.Keys.{larger}
 use Rattle.chain_laws.specs.Follow.{with_own, own_has, other_has}
 use Rattle.op_basis.specs.Closed.{swap_closed}
@@ -17,14 +17,13 @@ use Rattle.step_core.specs.StepStacks.{StackView}
 use Rattle.step_core.specs.Pruning.{due, gives_some}
 use Rattle.step_core.specs.Waits.{is_at, has_read, is_later}
 use Rattle.step_core.specs.Enumeration.{NoneFrom, NoneWith, HasLarger, HasPair, HasOperands, IsGivenStep}
-use Rattle.step_core.specs.Reads.{IsFreshSolution, ReadExactly, NoneReading, NoneReadingWith, reads_after, missing, IsMissingMask, AreInConflict, IsOpen, IsRefuting, IsAfter, IsRefutation}
+use Rattle.step_core.specs.Reads.{IsFreshSolution, ReadExactly, NoneReading, NoneReadingWith, reads_after, missing, IsMissingMask, IsOpen, IsRefuting, IsAfter, IsRefutation}
 use Rattle.step_core.specs.StackLaws.{word_last}
 use Rattle.step_core.specs.PruningLaws.{too_few}
 use Rattle.step_core.specs.NormalFormLaws.{must_rise}
 use Rattle.step_core.specs.OutcomeLaws.{append_one, step_among, member_among, this_step}
 use Rattle.step_core.specs.WaitLaws.{is_at_is, at_is}
 use Rattle.step_core.specs.ReadCountLaws.{count_weaker, too_many_reads, middle_word}
-use Rattle.step_core.specs.DeterminedLaws.{none_in_conflict}
 
 -- ---- what is ruled out after a step
 

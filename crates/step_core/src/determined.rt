@@ -1,7 +1,7 @@
 //! Whether the missing outputs are functions of the places that further steps read. They aren't where two rows have
 //! equal values at all these places, and an output specifies different values on them. Rows with equal values there
 //! are a class, and each class is looked at once.
-ghost use Rattle.std.specs.Prelude.{◌≡◌, ℕ, ◌+◌, ◌<◌, true, false, length, slice_index};
+ghost use Rattle.std.specs.Prelude.{◌≡◌, ◌+◌, ◌<◌, true, false, length};
 ghost use Rattle.chain_theory.specs.Operator.{digit};
 ghost use Rattle.step_core.specs.Reads.{IsMissingMask, AreInConflict};
 ghost use Rattle.step_core.specs.ClashLaws.{AreAlikeRows, HasClash, HaveClash};

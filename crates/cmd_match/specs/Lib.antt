@@ -1,0 +1,2 @@
+pub mod MatchReport
+pub mod MatchLaws

@@ -1,0 +1,5 @@
+pub mod Matched
+pub mod Lacks
+pub mod MatchedLaws
+pub mod ByNamesLaws
+pub mod ListedLaws
