@@ -27,15 +27,15 @@ SameBits a b word = digit word b ≡ digit word a
 pub record AreAlike (w : Words) (prefix rest : List Step) (a b : ℕ) : Type 0 where
   pub each : (i : ℕ) → i < w.n + length prefix → is_later rest i ≡ true → SameBits a b (word_in w.n prefix (i + 1))
 
-first_read : (s : Step) (rest : List Step) (i : ℕ) → s.j ≡ i + 1 → is_later (s ∷ rest) i ≡ true
+pub first_read : (s : Step) (rest : List Step) (i : ℕ) → s.j ≡ i + 1 → is_later (s ∷ rest) i ≡ true
 unfolding is_later has_read
 first_read s rest i e = or_left (is_at s.j i || is_at s.k i) (is_later rest i) (or_left (is_at s.j i) (is_at s.k i) (at_is s.j i (sym e)))
 
-second_read : (s : Step) (rest : List Step) (i : ℕ) → s.k ≡ i + 1 → is_later (s ∷ rest) i ≡ true
+pub second_read : (s : Step) (rest : List Step) (i : ℕ) → s.k ≡ i + 1 → is_later (s ∷ rest) i ≡ true
 unfolding is_later has_read
 second_read s rest i e = or_left (is_at s.j i || is_at s.k i) (is_later rest i) (or_right (is_at s.j i) (is_at s.k i) (at_is s.k i (sym e)))
 
-rest_read : (s : Step) (rest : List Step) (i : ℕ) → is_later rest i ≡ true → is_later (s ∷ rest) i ≡ true
+pub rest_read : (s : Step) (rest : List Step) (i : ℕ) → is_later rest i ≡ true → is_later (s ∷ rest) i ≡ true
 unfolding is_later
 rest_read s rest i e = or_right (has_read s i) (is_later rest i) e
 
@@ -46,6 +46,14 @@ operand w prefix rest a b p alike from to read =
     let own : p - 1 + 1 ≡ p = omega (arith, from) in
     subst (λ (x : ℕ). SameBits a b (word_in w.n prefix x)) own (alike.each (p - 1) (omega (arith, from, to)) (read (p - 1) (sym own)))
 
+-- a step has equal values where its operands have
+pub step_same : (op first second a b : ℕ) → a < 64 → b < 64 → SameBits a b first → SameBits a b second → SameBits a b (on_words op first second)
+step_same op first second a b low_a low_b same_first same_second =
+    on_words_bit op first second b low_b
+    ∙ ap (λ (x : Bool). apply op x (digit second b)) same_first
+    ∙ ap (λ (x : Bool). apply op (digit first a) x) same_second
+    ∙ sym (on_words_bit op first second a low_a)
+
 -- so the next step has equal values
 next_alike : (w : Words) (prefix rest : List Step) (s : Step) (a b : ℕ) → a < 64 → b < 64 → IsStepAt (w.n + 1 + length prefix) s →
     AreAlike w prefix (s ∷ rest) a b → SameBits a b (word_in w.n (prefix ++ s ∷ []) (w.n + 1 + length prefix))
@@ -53,12 +61,7 @@ next_alike w prefix rest s a b low_a low_b at alike =
     let word : word_in w.n (prefix ++ s ∷ []) (w.n + 1 + length prefix) ≡ on_words s.op (word_in w.n prefix s.j) (word_in w.n prefix s.k) = word_last w.n prefix s (w.n + 1 + length prefix) refl in
     let first : SameBits a b (word_in w.n prefix s.j) = operand w prefix (s ∷ rest) a b s.j alike at.j_from (omega (arith, at.j_below)) (λ i e. first_read s rest i e) in
     let second : SameBits a b (word_in w.n prefix s.k) = operand w prefix (s ∷ rest) a b s.k alike at.k_from (omega (arith, at.k_below)) (λ i e. second_read s rest i e) in
-    ap (λ (x : ℕ). digit x b) word
-    ∙ on_words_bit s.op (word_in w.n prefix s.j) (word_in w.n prefix s.k) b low_b
-    ∙ ap (λ (x : Bool). apply s.op x (digit (word_in w.n prefix s.k) b)) first
-    ∙ ap (λ (x : Bool). apply s.op (digit (word_in w.n prefix s.j) a) x) second
-    ∙ sym (on_words_bit s.op (word_in w.n prefix s.j) (word_in w.n prefix s.k) a low_a)
-    ∙ ap (λ (x : ℕ). digit x a) (sym word)
+    subst (SameBits a b) (sym word) (step_same s.op (word_in w.n prefix s.j) (word_in w.n prefix s.k) a b low_a low_b first second)
 
 alike_after : (w : Words) (prefix rest : List Step) (s : Step) (a b : ℕ) → a < 64 → b < 64 → IsStepAt (w.n + 1 + length prefix) s →
     AreAlike w prefix (s ∷ rest) a b → AreAlike w (prefix ++ s ∷ []) rest a b
@@ -98,7 +101,7 @@ further_alike w a b low_a low_b (s ∷ rest) prefix are alike p from to =
 -- ---- a conflict
 
 -- a word with the values of an output has its specified value on a row
-specified : (w : Words) (word i t : ℕ) → misses w word i ≡ false → digit (slice_index w.care i) t ≡ true → digit word t ≡ digit (slice_index w.on i) t
+pub specified : (w : Words) (word i t : ℕ) → misses w word i ≡ false → digit (slice_index w.care i) t ≡ true → digit word t ≡ digit (slice_index w.on i) t
 unfolding misses
 specified w word i t has care =
     let on : ℕ = slice_index w.on i in

@@ -8,6 +8,7 @@ pub mod Outs
 pub mod Pruning
 pub mod Waits
 pub mod Reads
+pub mod Shares
 pub mod LoopLaws
 pub mod WordLaws
 pub mod StackLaws
@@ -21,8 +22,12 @@ pub mod LeastChainLaws
 pub mod FreshLaws
 pub mod ReadCountLaws
 pub mod DeterminedLaws
+pub mod ColourLaws
+pub mod ComponentLaws
+pub mod ShareLaws
 pub mod MaskLaws
 pub mod ClashLaws
+pub mod GroupLaws
 pub mod RefutingLaws
 pub mod LiveChainLaws
 pub mod RefutedLaws

@@ -27,7 +27,7 @@ count_weaker a b k each =
     omega (arith, none, count_split a b (λ i. false) k (λ i low e. inl (each i low e)))
 
 -- where all that pass `a` pass `b`, and one passes `b` alone
-count_fewer : (a b : ℕ → Bool) (k i : ℕ) → i < k → a i ≡ false → b i ≡ true →
+pub count_fewer : (a b : ℕ → Bool) (k i : ℕ) → i < k → a i ≡ false → b i ≡ true →
     ((j : ℕ) → j < k → a j ≡ true → b j ≡ true) → count_below a k + 1 ≤ count_below b k
 count_fewer a b zero i low fails passes each = absurd (omega (arith, low))
 count_fewer a b (suc k) i low fails passes each = elim (cases_lt i k) [
@@ -55,7 +55,7 @@ count_fewer a b (suc k) i low fails passes each = elim (cases_lt i k) [
 
 -- ---- one step more
 
-still_met : (w : Words) (prefix rest : List Step) (i : ℕ) → is_met w prefix i ≡ true → is_met w (prefix ++ rest) i ≡ true
+pub still_met : (w : Words) (prefix rest : List Step) (i : ℕ) → is_met w prefix i ≡ true → is_met w (prefix ++ rest) i ≡ true
 unfolding meets_at
 still_met w prefix rest i met =
     let found = met_some w prefix i met in
@@ -66,7 +66,7 @@ still_met w prefix rest i met =
     longer [] rest = omega arith
     longer (x ∷ prefix) rest = omega (arith, longer prefix rest)
 
-still_missing : (w : Words) (prefix : List Step) (s : Step) (i : ℕ) → is_missing w (prefix ++ s ∷ []) i ≡ true → is_missing w prefix i ≡ true
+pub still_missing : (w : Words) (prefix : List Step) (s : Step) (i : ℕ) → is_missing w (prefix ++ s ∷ []) i ≡ true → is_missing w prefix i ≡ true
 unfolding is_missing
 still_missing w prefix s i e = elim (cases_Bool (is_met w prefix i)) [
   | inl met ↦ absurd (true_false (sym e ∙ ap not (still_met w prefix (s ∷ []) i met)))
@@ -77,7 +77,7 @@ pub missing_after : (w : Words) (prefix : List Step) (s : Step) → missing w (p
 missing_after w prefix s = count_weaker (is_missing w (prefix ++ s ∷ [])) (is_missing w prefix) (length w.on) (λ i low e. still_missing w prefix s i e)
 
 -- the word of the last step gives an output, which isn't missing any more
-given_met : (w : Words) (prefix : List Step) (s : Step) (word i : ℕ) → word ≡ word_in w.n (prefix ++ s ∷ []) (w.n + 1 + length prefix) → meets w word i ≡ true → is_missing w (prefix ++ s ∷ []) i ≡ false
+pub given_met : (w : Words) (prefix : List Step) (s : Step) (word i : ℕ) → word ≡ word_in w.n (prefix ++ s ∷ []) (w.n + 1 + length prefix) → meets w word i ≡ true → is_missing w (prefix ++ s ∷ []) i ≡ false
 unfolding is_missing meets meets_at
 given_met w prefix s word i is has = ap not (met_at w (prefix ++ s ∷ []) i (length prefix) (omega (arith, length_push prefix s))
     (ap (λ (x : ℕ). not (misses w x i)) (sym is) ∙ has))

@@ -19,7 +19,7 @@ fn filled(bit: bool) -> u64
 }
 
 /// Whether a row of a word is 1.
-fn is_one(word: u64, row: u32) -> bool
+pub(crate) fn is_one(word: u64, row: u32) -> bool
     requires { row < 64 }
     ensures { result ≡ digit word row }
 {
@@ -28,7 +28,7 @@ fn is_one(word: u64, row: u32) -> bool
 
 /// The rows on which all places of the set have the values of the given row.
 #[tactic(auto, using(crate::specs::ClashLaws::clashing))]
-fn alike(stack: &StepStack, reads: u32, row: u32) -> u64
+pub(crate) fn alike(stack: &StepStack, reads: u32, row: u32) -> u64
     requires { row < 64 }
     ensures { AreAlikeRows stack.now.n stack.now.steps (digit reads) row result (stack.now.n + length stack.now.steps) }
 {
@@ -46,7 +46,7 @@ fn alike(stack: &StepStack, reads: u32, row: u32) -> u64
 
 /// Whether an output, counted from 0, specifies a value on the row and the other value on one of the rows `same`.
 #[tactic(auto, using(crate::specs::ClashLaws::clashing))]
-fn has_clash(spec: &Spec, output: u32, row: u32, same: u64) -> bool
+pub(crate) fn has_clash(spec: &Spec, output: u32, row: u32, same: u64) -> bool
     requires output { output < length spec.now.on }
     requires row { row < 64 }
     ensures { result ≡ true → HasClash spec.now output row same }
@@ -82,7 +82,7 @@ fn have_clash(spec: &Spec, missing: u32, row: u32, same: u64) -> bool
 }
 
 /// The rows on which some missing output is specified.
-fn cared_for(spec: &Spec, missing: u32) -> u64 {
+pub(crate) fn cared_for(spec: &Spec, missing: u32) -> u64 {
     // for the prover: brings in the invariant of the specification
     let _inputs = spec.n();
     let mut rows = 0u64;

@@ -36,6 +36,7 @@ mod pruning;
 mod refuted;
 mod refuting;
 mod rules;
+mod shares;
 mod stack;
 mod waits;
 mod words;

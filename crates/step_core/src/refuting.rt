@@ -1,6 +1,6 @@
 //! Refutes a size by the places that further steps read. A branch has the set of the places so far that the steps to
-//! come read, exactly; it ends where these are more than so many steps can read, or where the missing outputs aren't
-//! functions of them. The next step reads two of the set, and its operands and its own place are in the next set or
+//! come read, exactly; it ends where these are more than so many steps can read, where the missing outputs aren't
+//! functions of them, or where too many of these need common steps. The next step reads two of the set, and its operands and its own place are in the next set or
 //! not: eight cases. Work is counted, and a search that runs out of it refutes nothing.
 ghost use Rattle.std.specs.Prelude.{◌≡◌, ◌+◌, ◌≤◌, length, IfOk};
 ghost use Rattle.op_basis.specs.Basis.{members};
@@ -16,6 +16,7 @@ use crate::determined::are_determined;
 use crate::masks::{count, has, put};
 use crate::pruning::{due, gives_some, is_nontrivial, may_come, may_follow};
 use crate::rules::Rules;
+use crate::shares::may_share;
 use crate::stack::StepStack;
 use crate::words::is_met;
 use chain_core::Step;
@@ -71,6 +72,9 @@ pub(crate) fn refute(
     }
     *work -= 1;
     if !are_determined(spec, stack, reads, missing) {
+        return Ok(true);
+    }
+    if !may_share(spec, stack, left, reads, missing, work) {
         return Ok(true);
     }
     if left == 0 {

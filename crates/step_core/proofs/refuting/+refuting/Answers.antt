@@ -31,6 +31,10 @@ refute-returns-then-not-are_determined t c = refuted_by c.args.stack.now c.args.
     (none_in_conflict c.args.spec.now (members c.args.rules.now.basis) c.args.stack.now.steps c.args.left
     (digit c.args.reads) (c.are_determined.ensures c.if-not-are_determined.true))
 
+pub refute-returns-then-not-may_share : goal.refute-returns-then-not-may_share
+refute-returns-then-not-may_share t c = refuted_by c.args.stack.now c.args.stack.now _ refl
+    (c.may_share.ensures c.if-not-may_share.true (members c.args.rules.now.basis))
+
 pub refute-refute_steps-requires : goal.refute-refute_steps-requires
 refute-refute_steps-requires t c =
     let at : 9 * c.args.left ≡ t = c.decreases in
