@@ -2,7 +2,7 @@
 use chain_core::{Chain, first_difference, write_chain};
 use op_basis::read_basis;
 use std::alloc::Global;
-use step_core::{least_chain, nth_chain};
+use step_core::{least_chain, nth_chain, refutes};
 use tt_core::read_tables;
 
 /// Whether a chain is written as `text`.
@@ -168,6 +168,119 @@ const FEWEST: &[(&str, &[u8], &[u8], u32, Option<u32>)] = &[
 fn least_chains_have_their_known_sizes(rt: HostRuntime) {
     for &(name, basis, tables, most, wanted) in FEWEST {
         assert!(rt; needs(rt.alloc(), basis, tables, most, wanted), "{name}");
+    }
+}
+
+/// Whether the search by read sets, of so many tests, refutes that a chain over a basis of exactly `steps` steps
+/// implements the tables, or doesn't, as wanted.
+fn answers(
+    alloc: Global,
+    basis: &[u8],
+    tables: &[u8],
+    steps: u32,
+    work: u32,
+    wanted: bool,
+) -> bool {
+    if tables.len() > 100_000 || steps > 6 {
+        return false;
+    }
+    let Ok(basis) = read_basis(basis) else {
+        return false;
+    };
+    let Ok(tables) = read_tables(alloc, tables) else {
+        return false;
+    };
+    match refutes(alloc, &tables.spec, basis, steps, work) {
+        Ok(refuted) => refuted == wanted,
+        Err(_) => false,
+    }
+}
+
+/// Bases, truth tables, a size, the most tests, and whether the size is refuted: one step less than the least chain has
+/// is, the least size isn't, and without a test nothing is.
+const REFUTED: &[(&str, &[u8], &[u8], u32, u32, bool)] = &[
+    (
+        "XOR over NAND, three steps",
+        b"nand",
+        b"inputs 2\n0110\n",
+        3,
+        10_000,
+        true,
+    ),
+    (
+        "XOR over NAND, four steps",
+        b"nand",
+        b"inputs 2\n0110\n",
+        4,
+        10_000,
+        false,
+    ),
+    (
+        "XOR over NAND, no test",
+        b"nand",
+        b"inputs 2\n0110\n",
+        3,
+        0,
+        false,
+    ),
+    (
+        "a multiplexer, two steps",
+        b"all",
+        b"inputs 3\n01010011\n",
+        2,
+        10_000,
+        true,
+    ),
+    (
+        "a multiplexer, three steps",
+        b"all",
+        b"inputs 3\n01010011\n",
+        3,
+        10_000,
+        false,
+    ),
+    (
+        "a full adder, four steps",
+        b"all",
+        b"inputs 3\n01101001\n00010111\n",
+        4,
+        100_000,
+        true,
+    ),
+    (
+        "a full adder, five steps",
+        b"all",
+        b"inputs 3\n01101001\n00010111\n",
+        5,
+        100_000,
+        false,
+    ),
+    // both outputs depend on all inputs, so all steps are in one component, and two of them read three inputs
+    (
+        "AND and XOR of four, two steps and few tests",
+        b"all",
+        b"inputs 4\n0000000000000001\n0110100110010110\n",
+        2,
+        20,
+        true,
+    ),
+    (
+        "a full adder, no test",
+        b"all",
+        b"inputs 3\n01101001\n00010111\n",
+        4,
+        0,
+        false,
+    ),
+];
+
+#[test]
+fn sizes_below_the_least_are_refuted(rt: HostRuntime) {
+    for &(name, basis, tables, steps, work, wanted) in REFUTED {
+        assert!(rt;
+            answers(rt.alloc(), basis, tables, steps, work, wanted),
+            "{name}"
+        );
     }
 }
 

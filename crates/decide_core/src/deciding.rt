@@ -16,13 +16,10 @@ use std::alloc::{AllocError, Global};
 use step_core::refutes;
 
 /// The greatest size that is refuted by enumeration; greater ones are left to the solver.
-const MOST_REFUTED: u32 = 6;
+const MOST_REFUTED: u32 = 7;
 
 /// The tests of an enumeration for each conflict that a formula may have.
 const TESTS_OF_CONFLICT: u32 = 8;
-
-/// With so many outputs windows have read sets that rule out little, and the solver is faster.
-const OUTPUTS_OF_SOLVER: u32 = 3;
 
 /// Whether some chain of at most `max` steps of the header implements its tables.
 #[derive(Drop)]
@@ -122,7 +119,7 @@ pub(crate) fn search_whole<S: Solver>(
 fn is_refuted(alloc: Global, header: &Header, size: u32) -> Result<bool, AllocError>
     ensures { IfOk result (λ refuted. refuted ≡ true → Fewer header.now size → Fewer header.now (size + 1)) }
 {
-    if size > MOST_REFUTED || header.spec.outputs() == OUTPUTS_OF_SOLVER {
+    if size > MOST_REFUTED {
         return Ok(false);
     }
     let work = header.conflicts.saturating_mul(TESTS_OF_CONFLICT);

@@ -43,7 +43,7 @@ count_colours of_a of_b a b (suc m) k each apart = elim (cases_Bool (a m)) [
   | inr none ↦ rw none (omega (
     arith,
     count_colours of_a of_b a b m k (λ i low e. each i (omega (arith, low)) e)
-    (λ i j low_i low_j. apart i j (omega (arith, low_i)) (omega (arith, low_j))),
+        (λ i j low_i low_j. apart i j (omega (arith, low_i)) (omega (arith, low_j))),
   ))
   | inl last ↦
       let found = each m (omega arith) last in
@@ -52,7 +52,7 @@ count_colours of_a of_b a b (suc m) k each apart = elim (cases_Bool (a m)) [
         arith,
         count_fewer (without b t) b k t found.1 (without_own b t) found.2 (λ j low e. without_less b t j e),
         count_colours of_a of_b a (without b t) m k
-        (λ i low e. still_coloured b of_b k t (of_a i) (λ same. omega (arith, low, apart m i (omega arith) (omega (arith, low)) last e (sym found.3 ∙ same))) (each i (omega (arith, low)) e))
-        (λ i j low_i low_j. apart i j (omega (arith, low_i)) (omega (arith, low_j))),
+            (λ i low e. still_coloured b of_b k t (of_a i) (λ same. omega (arith, low, apart m i (omega arith) (omega (arith, low)) last e (sym found.3 ∙ same))) (each i (omega (arith, low)) e))
+            (λ i j low_i low_j. apart i j (omega (arith, low_i)) (omega (arith, low_j))),
       ))
 ]

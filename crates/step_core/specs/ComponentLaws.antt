@@ -126,11 +126,13 @@ lost_colour : (colours : ℕ → ℕ) (a b : ℕ) (roots : ℕ → Bool) (i : �
 unfolding root_lost
 lost_colour colours a b roots i e =
     let parts = and_parts (roots i) (not (joined a b (colours i) == colours i)) e in
-    let moved : (joined a b (colours i) == colours i) ≡ false = not-true (joined a b (colours i) == colours i) parts.1 in
-    (parts.0, elim (cases_eq (colours i) b) [
-      | inl same ↦ same
-      | inr other ↦ absurd (eqb-false (joined a b (colours i)) (colours i) moved (other_has (λ (x : ℕ). x) b (colours i) a other))
-    ])
+    let moved : (joined a b (colours i) == colours i) ≡ false = not-true (joined a b (colours i) == colours i) parts.1 in (
+      parts.0,
+      elim (cases_eq (colours i) b) [
+        | inl same ↦ same
+        | inr other ↦ absurd (eqb-false (joined a b (colours i)) (colours i) moved (other_has (λ (x : ℕ). x) b (colours i) a other))
+      ],
+    )
 
 root_kept : (colours : ℕ → ℕ) (a b : ℕ) (roots : ℕ → Bool) (i : ℕ) → roots i ≡ true →
     (roots_after colours a b roots i ≡ true) ⊎ (root_lost colours a b roots i ≡ true)
@@ -229,7 +231,7 @@ first_given w prefix s o met before =
     let found = met_some w (prefix ++ s ∷ []) o met in
     elim (cases_lt found.0 (length prefix)) [
       | inl low ↦ absurd (both_ways (is_met w prefix o) before (met_at w prefix o found.0 low
-        (ap (λ (x : ℕ). not (misses w x o)) (sym (word_prefix w.n prefix (s ∷ []) (w.n + 1 + found.0) (omega (arith, low)))) ∙ found.2)))
+          (ap (λ (x : ℕ). not (misses w x o)) (sym (word_prefix w.n prefix (s ∷ []) (w.n + 1 + found.0) (omega (arith, low)))) ∙ found.2)))
       | inr past ↦
           let here : found.0 ≡ length prefix = omega (arith, past, found.1, length_push prefix s) in
           subst (λ (k : ℕ). misses w (word_in w.n (prefix ++ s ∷ []) (w.n + 1 + k)) o ≡ false) here
@@ -325,7 +327,7 @@ next_lives w basis base prefix rest s reads colours outs roots target are i low 
       | inl here ↦ own_lives w basis base prefix rest s reads colours outs roots (colours i) target are here
       | inr apart ↦ elim (are.lives i low (root_before colours a b roots i root)) [
         | inl read ↦ inl (other_read w prefix rest s colours (colours i) apart
-          (λ e. apart (sym (own_has (λ (x : ℕ). x) b (colours i) a (sym e)) ∙ kept)) read)
+            (λ e. apart (sym (own_has (λ (x : ℕ). x) b (colours i) a (sym e)) ∙ kept)) read)
         | inr out ↦ inr (record {
           output = out.output;
           inside = out.inside;

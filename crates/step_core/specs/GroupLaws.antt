@@ -4,6 +4,7 @@ use Rattle.std.specs.Prelude.{bit_and, bit_or}
 use Rattle.std.specs.Int.{bit_at}
 use Rattle.std.proofs.lemmas.Bool.{cases_Bool, cases_lt, cases_eq, and_parts, both_ways}
 use Rattle.std.proofs.lemmas.Grind.{common_steps}
+use Rattle.std.proofs.lemmas.Nat.{and_le_l}
 use Rattle.std.proofs.lemmas.Nat.Bits.{bit_at-zero, bit_at-lt, bit_at_or, bit_at_above, same_from_bits}
 use Rattle.chain_theory.specs.Operator.{digit, Basis}
 use Rattle.chain_theory.specs.Chain.{Step}
@@ -132,10 +133,10 @@ or_parts a b i e = elim (cases_Bool (digit a i)) [
 pub merged_none : (group touched : ℕ → Bool) → IsMerged group touched group
 merged_none group touched = record { each = λ o e. inl e }
 
-pub merged_with : (group touched : ℕ) → bit_and group touched < 2 ^ 32 → (bit_and group touched ≡ 0 → ⊥) →
+pub merged_with : (group touched : ℕ) → group < 2 ^ 32 → (bit_and group touched ≡ 0 → ⊥) →
     IsMerged (digit group) (digit touched) (digit (bit_or group touched))
 merged_with group touched low some =
-    let found = some_digit (bit_and group touched) 32 low some in
+    let found = some_digit (bit_and group touched) 32 (omega (arith, low, and_le_l group touched)) some in
     let both = and_parts (digit group found.0) (digit touched found.0) (sym (digit_and group touched found.0) ∙ found.1) in
     record {
       each = λ o e. elim (or_parts group touched o e) [
@@ -172,9 +173,12 @@ more_grown w n steps reads group wider touched more place places member inputs c
   each = λ o d. elim (merged.each o d) [
     | inl old ↦ grown.each o old
     | inr new ↦
-        let from = grown.each new.1 new.2 in
-        (from.0, from.1, linked_on w steps reads o new.1 from.0
-        (linked_by w steps reads place o new.1 (omega (arith, low, count, inputs)) (sym is ∙ e) (are.each o new.0) (are.each new.1 new.3)) from.2)
+        let from = grown.each new.1 new.2 in (
+          from.0,
+          from.1,
+          linked_on w steps reads o new.1 from.0
+              (linked_by w steps reads place o new.1 (omega (arith, low, count, inputs)) (sym is ∙ e) (are.each o new.0) (are.each new.1 new.3)) from.2,
+        )
   ];
 }
 
@@ -252,14 +256,14 @@ groups_more w steps reads starts more covered set bound are low made is = record
   ];
 }
   where
-    kept : (o : ℕ) → IsCovered w steps reads starts o → IsCovered w steps reads more o
-    kept o old = record { start = old.start; inside = old.inside; member = still old.start old.member; linked = old.linked }
-
     still : (s : ℕ) → starts s ≡ true → more s ≡ true
     still s e = elim (cases_eq s bound) [
       | inl here ↦ made s ∙ own_has starts bound s true here
       | inr other ↦ made s ∙ other_has starts bound s true other ∙ e
     ]
+
+    kept : (o : ℕ) → IsCovered w steps reads starts o → IsCovered w steps reads more o
+    kept o old = record { start = old.start; inside = old.inside; member = still old.start old.member; linked = old.linked }
 
     own : (o : ℕ) → AreLinked w steps reads o bound → IsCovered w steps reads more o
     own o linked = record { start = bound; inside = low; member = made bound ∙ own_has starts bound bound true refl; linked = linked }

@@ -110,6 +110,6 @@ too_few_groups w basis prefix left bound reads groups many = record {
       groups.few,
       last.many,
       count_colours last.colours last.outs last.roots groups.starts (w.n + length prefix) (length w.on)
-      (λ i low root. start_of w basis prefix reads bound groups (prefix ++ rest) last.colours last.outs last.roots i target last.are (last.are.lives i low root))
-      (λ i j low_i low_j root_i root_j e. last.are.apart i j low_i low_j root_i root_j e),
+          (λ i low root. start_of w basis prefix reads bound groups (prefix ++ rest) last.colours last.outs last.roots i target last.are (last.are.lives i low root))
+          (λ i j low_i low_j root_i root_j e. last.are.apart i j low_i low_j root_i root_j e),
     )

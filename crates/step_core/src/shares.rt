@@ -26,9 +26,10 @@ fn with_clashing(spec: &Spec, missing: u32, touched: u32, row: u32, same: u64) -
         if !has(missing, output) {
             continue;
         }
-        if has_clash(spec, output, row, same) {
-            wider = put(wider, output, true);
+        if !has_clash(spec, output, row, same) {
+            continue;
         }
+        wider = put(wider, output, true);
     }
     wider
 }
