@@ -181,7 +181,7 @@ fn answers(
     work: u32,
     wanted: bool,
 ) -> bool {
-    if tables.len() > 100_000 || steps > 6 {
+    if tables.len() > 100_000 || steps > 7 {
         return false;
     }
     let Ok(basis) = read_basis(basis) else {
@@ -255,13 +255,22 @@ const REFUTED: &[(&str, &[u8], &[u8], u32, u32, bool)] = &[
         100_000,
         false,
     ),
-    // both outputs depend on all inputs, so all steps are in one component, and two of them read three inputs
+    // both outputs depend on all inputs, so they are in one component, in which three steps read four inputs
     (
-        "AND and XOR of four, two steps and few tests",
+        "AND and XOR of five, three steps and few tests",
         b"all",
-        b"inputs 4\n0000000000000001\n0110100110010110\n",
-        2,
-        20,
+        b"inputs 5\n00000000000000000000000000000001\n01101001100101101001011001101001\n",
+        3,
+        40,
+        true,
+    ),
+    // each needs a step of its own
+    (
+        "eight outputs, seven steps and no test",
+        b"all",
+        b"inputs 3\n00010001\n01110111\n00000011\n00111111\n00000101\n01011111\n01100110\n00111100\n",
+        7,
+        0,
         true,
     ),
     (

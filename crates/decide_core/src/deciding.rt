@@ -16,7 +16,7 @@ use std::alloc::{AllocError, Global};
 use step_core::refutes;
 
 /// The greatest size that is refuted by enumeration; greater ones are left to the solver.
-const MOST_REFUTED: u32 = 6;
+const MOST_REFUTED: u32 = 7;
 
 /// The tests of an enumeration for each conflict that a formula may have.
 const TESTS_OF_CONFLICT: u32 = 8;

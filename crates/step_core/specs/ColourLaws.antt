@@ -1,5 +1,5 @@
 -- Counts by colours: numbers of different colours are no more than those that they have the colours of.
-use Rattle.std.proofs.Common.{◌≡◌, ℕ, zero, suc, ◌+◌, ◌≤◌, ◌<◌, true, false, Bool, ◌&&◌, not, ◌==◌, refl, sym, ap, ◌∙◌, arith, inl, inr}
+use Rattle.std.proofs.Common.{◌≡◌, ℕ, zero, suc, ◌≤◌, ◌<◌, true, false, Bool, ◌&&◌, not, ◌==◌, refl, sym, ap, ◌∙◌, arith, inl, inr}
 use Rattle.std.proofs.lemmas.Bool.{cases_Bool, and_parts, and_from, eq-eqb, ne_eqb}
 use Rattle.bound_core.specs.Counts.{count_below}
 use Rattle.step_core.specs.ReadCountLaws.{count_fewer}

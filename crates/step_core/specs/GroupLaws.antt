@@ -1,5 +1,5 @@
 -- Groups of linked outputs, as the program finds them: outputs that places are essential for, and what these link.
-use Rattle.std.proofs.Common.{◌≡◌, ℕ, ◌+◌, ◌^◌, ◌≤◌, ◌<◌, ◌⊎◌, true, false, Bool, not, ◌==◌, List, length, refl, sym, ap, ◌∙◌, subst, arith, inl, inr}
+use Rattle.std.proofs.Common.{◌≡◌, ℕ, ◌+◌, ◌^◌, ◌≤◌, ◌<◌, ◌⊎◌, true, false, Bool, ◌==◌, List, length, refl, sym, ap, ◌∙◌, subst, arith, inl, inr}
 use Rattle.std.specs.Prelude.{bit_and, bit_or}
 use Rattle.std.specs.Int.{bit_at}
 use Rattle.std.proofs.lemmas.Bool.{cases_Bool, cases_lt, cases_eq, and_parts, both_ways}
@@ -15,7 +15,7 @@ use Rattle.bound_core.specs.Counts.{some_below, count_below}
 use Rattle.bound_core.specs.CountLaws.{some_passes, no_digit}
 use Rattle.step_core.specs.Steps.{is_missing, word_in}
 use Rattle.step_core.specs.Reads.{IsMissingMask, NoneReading}
-use Rattle.step_core.specs.Shares.{IsEssential, IsColouring, AreLinked, IsCovered, HasFewGroups}
+use Rattle.step_core.specs.Shares.{IsEssential, AreLinked, IsCovered, HasFewGroups}
 use Rattle.step_core.specs.ClashLaws.{AreAlikeRows, HasClash}
 use Rattle.step_core.specs.LoopLaws.{none_passes}
 use Rattle.step_core.specs.ShareLaws.{too_few_groups}

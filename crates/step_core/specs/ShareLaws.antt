@@ -6,7 +6,7 @@ use Rattle.chain_theory.specs.Operator.{Basis}
 use Rattle.chain_theory.specs.Chain.{Step}
 use Rattle.tt_core.specs.Words.{Words}
 use Rattle.bound_core.specs.Counts.{count_below}
-use Rattle.step_core.specs.Steps.{misses, meets_at, is_met, is_missing, word_in}
+use Rattle.step_core.specs.Steps.{meets_at, is_met, is_missing, word_in}
 use Rattle.step_core.specs.Waits.{is_later}
 use Rattle.step_core.specs.Reads.{IsFreshSolution, ReadExactly, NoneReading}
 use Rattle.step_core.specs.Shares.{IsEssential, IsColouring, HasFewGroups}

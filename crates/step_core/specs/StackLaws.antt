@@ -14,6 +14,7 @@ use Rattle.op_basis.specs.WordOperator.{input_word, on_words}
 use Rattle.step_core.specs.Steps.{step_word, word_in}
 use Rattle.step_core.specs.StepStacks.{StackView, IsStepStack, HasStepWords}
 use Rattle.chain_theory.specs.Limits.{most_inputs}
+use Rattle.step_core.specs.Limits.{most_enumerated_steps}
 
 -- ---- words of steps and of more steps
 
@@ -86,7 +87,7 @@ pub pushed_steps : (steps more : List held.Step) (step : held.Step) → more ≡
 pushed_steps steps more step e = ap steps_of e ∙ map-append step_of steps (step ∷ [])
 
 pushed_words : (n word : ℕ) (steps : List Step) (step : Step) (words : List ℕ) →
-    HasStepWords (record { n = n; steps = steps }) words → length steps < 6 → IsStepAt (n + 1 + length steps) step →
+    HasStepWords (record { n = n; steps = steps }) words → length steps < most_enumerated_steps → IsStepAt (n + 1 + length steps) step →
     word ≡ on_words step.op (word_in n steps step.j) (word_in n steps step.k) →
     HasStepWords (record { n = n; steps = steps ++ step ∷ [] }) (words ++ word ∷ [])
 pushed_words n word steps step words is room at made =
@@ -108,7 +109,7 @@ pushed_words n word steps step words is room at made =
 
 pub push_whole : (n word : ℕ) (steps more : List held.Step) (step : held.Step) (words longer : List ℕ) →
     HasStepWords (stack_of n steps) words → more ≡ steps ++ step ∷ [] → longer ≡ words ++ word ∷ [] →
-    length (steps_of steps) < 6 → IsStepAt (n + 1 + length (steps_of steps)) (step_of step) →
+    length (steps_of steps) < most_enumerated_steps → IsStepAt (n + 1 + length (steps_of steps)) (step_of step) →
     word ≡ on_words step.op (word_in n (steps_of steps) step.j) (word_in n (steps_of steps) step.k) →
     HasStepWords (stack_of n more) longer
 push_whole n word steps more step words longer is grown lengthened room at made =
@@ -119,12 +120,12 @@ push_whole n word steps more step words longer is grown lengthened room at made 
 -- the same in terms of the model of the stack
 pub push_seen : (n word : ℕ) (steps more : List held.Step) (step : held.Step) (words longer : List ℕ)
     (now : StackView) → stack_of n steps ≡ now → HasStepWords (stack_of n steps) words → more ≡ steps ++ step ∷ [] →
-    longer ≡ words ++ word ∷ [] → length now.steps < 6 → IsStepAt (now.n + 1 + length now.steps) (step_of step) →
+    longer ≡ words ++ word ∷ [] → length now.steps < most_enumerated_steps → IsStepAt (now.n + 1 + length now.steps) (step_of step) →
     word ≡ on_words step.op (word_in now.n now.steps step.j) (word_in now.n now.steps step.k) →
     HasStepWords (stack_of n more) longer
 push_seen n word steps more step words longer now seen is grown lengthened room at made =
     push_whole n word steps more step words longer is grown lengthened
-    (subst (λ (x : StackView). length x.steps < 6) (sym seen) room)
+    (subst (λ (x : StackView). length x.steps < most_enumerated_steps) (sym seen) room)
     (subst (λ (x : StackView). IsStepAt (x.n + 1 + length x.steps) (step_of step)) (sym seen) at)
     (subst (λ (x : StackView). word ≡ on_words step.op (word_in x.n x.steps step.j) (word_in x.n x.steps step.k)) (sym seen) made)
 

@@ -9,10 +9,10 @@ pub record StackView : Type 0 where
   pub n : ℕ
   pub steps : List Step
 
--- at most six inputs and six steps
+-- few inputs and few steps
 pub record IsStepStack (t : StackView) : Type 0 where
   pub inputs : t.n ≤ most_inputs
-  pub few : length t.steps ≤ 6
+  pub few : length t.steps ≤ most_enumerated_steps
   pub are : AreSteps t.n t.steps
 
 -- with the truth table of each place: the inputs' first, then the steps'

@@ -1,7 +1,8 @@
 //! Refutes a size by the places that further steps read. A branch has the set of the places so far that the steps to
-//! come read, exactly; it ends where these are more than so many steps can read, where the missing outputs aren't
-//! functions of them, or where too many of these need common steps. The next step reads two of the set, and its operands and its own place are in the next set or
-//! not: eight cases. Work is counted, and a search that runs out of it refutes nothing.
+//! come read, exactly. It ends where these are more than so many steps can read, where the missing outputs aren't
+//! functions of them, and where the missing outputs fall into too few groups for them (`shares`). The next step reads
+//! two of the set, and its operands and its own place are in the next set or not: eight cases. Work is counted, and a
+//! search that runs out of it refutes nothing.
 ghost use Rattle.std.specs.Prelude.{◌≡◌, ◌+◌, ◌≤◌, length, IfOk};
 ghost use Rattle.op_basis.specs.Basis.{members};
 ghost use Rattle.chain_theory.specs.Operator.{digit};

@@ -14,7 +14,7 @@ use op_basis::{input_word, on_words};
 use std::alloc::{AllocError, Global};
 use std::marker::Model;
 
-/// A stack of at most six steps over at most six inputs, with the truth table of each place, and the number of
+/// A stack of at most seven steps over at most six inputs, with the truth table of each place, and the number of
 /// solutions that are still to be skipped. Contracts see the number of inputs and the steps.
 #[derive(Drop)]
 pub struct StepStack {

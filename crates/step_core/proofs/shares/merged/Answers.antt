@@ -1,6 +1,5 @@
 -- Nothing is added, or what touches the group.
-use Rattle.step_core.specs.GroupLaws.{merged_with, merged_none}
-use Rattle.chain_theory.specs.Operator.{digit}
+use Rattle.step_core.specs.GroupLaws.{merged_with}
 use Rattle.step_core.proofs.shares.merged.Goals as goal
 
 pub returns : goal.returns
