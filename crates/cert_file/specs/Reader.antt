@@ -8,7 +8,7 @@ use Rattle.cert_file.specs.StageAnswers.{AnswersText, Refuses}
 use Rattle.cert_file.specs.declared.stage.Stage.{Stage}
 use Rattle.line_reader.specs.declared.reader.PieceReader.{PieceReader}
 
--- the stage, the number of the next line, the bytes of the unfinished line, and how many bytes were fed in all
+-- the stage, the number of the next line, and the bytes of the unfinished line
 abbrev pub Reader : Type 0
 Reader = pieces.Reader Stage
 
@@ -19,9 +19,9 @@ CertificatePieces = PieceReader Stage
 abbrev pub seen : CertificatePieces → Reader
 seen r = lines.seen r
 
--- a stage keeps no bytes of the lines before
+-- the invariant of a reader
 abbrev pub IsReader : Reader → Type 0
-IsReader r = pieces.IsReader IsStage (λ (s : Stage). 0) r
+IsReader r = pieces.IsReader IsStage r
 
 -- A reader determines the result of every text that begins with these bytes, and it keeps the header and the
 -- chain.

@@ -1,5 +1,5 @@
 //! Whole texts, checked as one piece.
-ghost use Rattle.std.specs.Prelude.{ℕ, ◌^◌, ◌<◌, length, IfOk, Ok};
+ghost use Rattle.std.specs.Prelude.{ℕ, IfOk, Ok};
 ghost use Rattle.text_core.specs.Lines.{lines_of};
 ghost use Rattle.cert_theory.specs.Gives.{Gives};
 ghost use Rattle.tt_core.specs.Words.{Words, specification};
@@ -16,7 +16,6 @@ use std::alloc::Global;
 
 /// Checks as the definition says.
 fn judge(alloc: Global, bytes: &[u8]) -> Result<Verdict, CertificateError>
-    requires { length bytes.now < 2 ^ 31 }
     ensures { Gives (λ v. v) result (certificate_of (lines_of bytes.now)) }
 {
     let reader = CertificateReader::new(alloc).feed(bytes)?;
@@ -27,7 +26,6 @@ fn judge(alloc: Global, bytes: &[u8]) -> Result<Verdict, CertificateError>
 /// text and with the formulas of its sizes, and in open logs also with the clauses that the subsumption test
 /// visits; memory with the live clauses of one subproblem and with the longest line.
 pub fn check_certificate(alloc: Global, bytes: &[u8]) -> Result<Verdict, CertificateError>
-    requires { length bytes.now < 2 ^ 31 }
     // A verdict is given exactly to the texts of valid certificates, and it is the certificate's own.
     ensures verdict { IfOk result (λ v. HasVerdict bytes.now v) }
     ensures accepted { (b : Certificate) → IsCertificateText bytes.now b → Gives (λ v. v) result (Ok b.verdict) }

@@ -117,7 +117,7 @@ pub(crate) fn at_due(
     line: &TextLine,
 ) -> Result<Stage, CertificateError>
     requires running { IsRunning running }
-    requires number { line.now.number < 2 ^ 31 }
+    requires number { line.now.number < 2 ^ 32 }
     ensures keeps { IfOk result (λ s. IsStage s (line.now.number + 1)) }
     ensures answer { (ls : List Line) (answer : Answer) →
         answer ≡ judging.sections_of running.header line.now.number

@@ -17,8 +17,6 @@ impl LineStage for Stage {
 
     ghost whole = { λ stage number. IsStage stage number };
 
-    ghost held = { λ stage. 0 };
-
     ghost stands = { λ stage number lines all. AnswersText stage number lines all };
 
     ghost refuses = { λ e all. Refuses e all };

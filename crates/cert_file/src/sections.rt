@@ -73,7 +73,7 @@ pub(crate) fn at_between(
     line: &TextLine,
 ) -> Result<Stage, CertificateError>
     requires known { IsKnown next.header }
-    requires number { line.now.number < 2 ^ 31 }
+    requires number { line.now.number < 2 ^ 32 }
     ensures keeps { IfOk result (λ s. IsStage s (line.now.number + 1)) }
     ensures answer { (ls : List Line) (answer : Answer) →
         answer ≡ judging.sections_of next.header line.now.number (record {

@@ -23,7 +23,7 @@ use std::alloc::Global;
 /// The stage after the next line, or its fault.
 pub(crate) fn take(alloc: Global, stage: Stage, line: &TextLine) -> Result<Stage, CertificateError>
     requires stage { IsStage stage line.now.number }
-    requires number { line.now.number < 2 ^ 31 }
+    requires number { line.now.number < 2 ^ 32 }
     ensures keeps { IfOk result (λ s. IsStage s (line.now.number + 1)) }
     ensures answer { (lines ls : List Line) (answer : Answer) → AnswersLines stage line.now.number lines answer →
         lines ≡ line_of line.now ∷ ls → Judged result (line.now.number + 1) ls answer }

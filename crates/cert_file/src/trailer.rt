@@ -59,7 +59,7 @@ fn steps_at(header: &Header, size: u32, line: &TextLine) -> Result<u32, Certific
 /// The first line of a chain.
 fn at_chain(alloc: Global, next: NextSize, line: &TextLine) -> Result<Stage, CertificateError>
     requires known { IsKnown next.header }
-    requires number { line.now.number < 2 ^ 31 }
+    requires number { line.now.number < 2 ^ 32 }
     ensures keeps { IfOk result (λ s. IsStage s (line.now.number + 1)) }
     ensures answer { (ls : List Line) (answer : Answer) →
         answer ≡ judging.chain_at next.header line.now.number next.size next.low (line_of line.now) ls →
@@ -90,7 +90,7 @@ fn at_chain(alloc: Global, next: NextSize, line: &TextLine) -> Result<Stage, Cer
 
 /// A step of the chain.
 pub(crate) fn at_steps(lines: ChainLines, line: &TextLine) -> Result<Stage, CertificateError>
-    requires number { line.now.number < 2 ^ 31 }
+    requires number { line.now.number < 2 ^ 32 }
     requires read { AreRead lines line.now.number }
     ensures keeps { IfOk result (λ s. IsStage s (line.now.number + 1)) }
     ensures answer { (ls : List Line) (answer : Answer) →
@@ -137,7 +137,7 @@ fn chain_judged(header: &Header, chain: &Chain) -> Result<(), CertificateError>
 
 /// The line of an output of the chain; after the last one the chain is checked.
 pub(crate) fn at_outs(lines: ChainLines, line: &TextLine) -> Result<Stage, CertificateError>
-    requires number { line.now.number < 2 ^ 31 }
+    requires number { line.now.number < 2 ^ 32 }
     requires read { AreNamed lines line.now.number }
     ensures keeps { IfOk result (λ s. IsStage s (line.now.number + 1)) }
     ensures answer { (ls : List Line) (answer : Answer) →
@@ -299,7 +299,7 @@ pub(crate) fn at_trailer(
     line: &TextLine,
 ) -> Result<Stage, CertificateError>
     requires known { IsKnown next.header }
-    requires number { line.now.number < 2 ^ 31 }
+    requires number { line.now.number < 2 ^ 32 }
     ensures keeps { IfOk result (λ s. IsStage s (line.now.number + 1)) }
     ensures answer { (ls : List Line) (answer : Answer) →
         answer ≡ judging.trailer_at next.header line.now.number next.size next.low (line_of line.now) ls →

@@ -1,5 +1,5 @@
 //! Depth certificates in pieces: wherever they are cut, the answer is that of the whole.
-use crate::pieces::{MOST_BYTES, comes_in_pieces};
+use crate::pieces::comes_in_pieces;
 use depth_file::{DepthError, DepthVerdict, Stage, check_depth};
 use std::alloc::{AllocError, Global};
 
@@ -87,8 +87,7 @@ fn is_judged(
 ) -> bool {
     match text_of(alloc, certificate, following) {
         Ok(text) => {
-            text.len() <= MOST_BYTES
-                && check_depth(alloc, &text) == answer
+            check_depth(alloc, &text) == answer
                 && comes_in_pieces::<Stage>(alloc, &text, &answer)
         }
         Err(_) => false,

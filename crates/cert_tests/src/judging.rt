@@ -1,5 +1,5 @@
 //! Certificates as texts, judged whole and in pieces: wherever they are cut, the answer is that of the whole.
-use crate::pieces::{MOST_BYTES, comes_in_pieces};
+use crate::pieces::comes_in_pieces;
 use cert_file::{CertificateError, Stage, Verdict, check_certificate};
 use lrat_check::CheckError;
 use std::alloc::{AllocError, Global};
@@ -362,8 +362,7 @@ fn is_judged(
 ) -> bool {
     match text_of(alloc, certificate, put) {
         Ok(text) => {
-            text.len() <= MOST_BYTES
-                && check_certificate(alloc, &text) == answer
+            check_certificate(alloc, &text) == answer
                 && comes_in_pieces::<Stage>(alloc, &text, &answer)
         }
         Err(_) => false,

@@ -1,17 +1,12 @@
 //! Texts in pieces: wherever they are cut, the answer is that of the whole.
-ghost use Rattle.std.specs.Prelude.{◌+◌, ◌^◌, ◌<◌, ◌≤◌, length};
 ghost use Rattle.line_reader.specs.Reader.{IsReader};
 ghost use Rattle.line_reader.specs.Seen.{seen};
 
 use line_reader::{LineStage, PieceReader};
 use std::alloc::Global;
 
-/// The most bytes of a text that is cut at every position.
-pub(crate) const MOST_BYTES: usize = 10_000;
-
 /// Feeds two pieces.
 fn in_two<S: LineStage>(alloc: Global, prefix: &[u8], following: &[u8]) -> Result<S::End, S::Fault>
-    requires { length prefix.now + length following.now < 2 ^ 31 }
 {
     let reader: PieceReader<S> = PieceReader::new(alloc);
     reader.feed(prefix)?.feed(following)?.finish()
@@ -19,8 +14,7 @@ fn in_two<S: LineStage>(alloc: Global, prefix: &[u8], following: &[u8]) -> Resul
 
 /// Feeds each byte by itself.
 fn by_bytes<S: LineStage>(reader: PieceReader<S>, text: &[u8]) -> Result<S::End, S::Fault>
-    requires whole { IsReader S.whole S.held (seen reader) }
-    requires room { reader.fed + length text.now < 2 ^ 31 }
+    requires whole { IsReader S.whole (seen reader) }
 {
     let mut reader = reader;
     let mut left = text;
@@ -41,7 +35,6 @@ pub(crate) fn comes_in_pieces<S: LineStage>(
 where
     S::End: PartialEq,
     S::Fault: PartialEq,
-    requires { length text.now ≤ 10000 }
 {
     for at in 0..=text.len() {
         let (prefix, following) = text.split_at(at);

@@ -1,5 +1,5 @@
 //! What a certificate claims, or its refusal, which is that of `recheck`.
-ghost use Rattle.std.specs.Prelude.{◌^◌, ◌<◌, ◌≤◌, length, Err, IfOk, IfErr};
+ghost use Rattle.std.specs.Prelude.{◌≤◌, length, Err, IfOk, IfErr};
 ghost use Rattle.text_core.specs.Lines.{lines_of};
 ghost use Rattle.cert_theory.specs.Certificate.{Certificate};
 ghost use Rattle.cert_theory.specs.Gives.{Gives};
@@ -18,7 +18,6 @@ use std::alloc::Global;
 
 /// Reads the text of a certificate.
 fn read(alloc: Global, bytes: &[u8]) -> Result<Claim, CertificateError>
-    requires { length bytes.now < 2 ^ 31 }
     ensures exact { Gives (λ t. t.verdict) result (certificate_of (lines_of bytes.now)) }
     ensures claim { (b : Certificate) → IsCertificateText bytes.now b → IfOk result (λ t. IsClaim b t) }
 {

@@ -1,9 +1,8 @@
 -- The state of reading a certificate, after more bytes and at its end.
-use Rattle.std.specs.Prelude.{◌≡◌, ℕ, ◌<◌, ◌≤◌, ◌^◌, List, [], ◌++◌, length, Option, Some}
-use Rattle.std.proofs.Common.{arith, subst, append-nil}
+use Rattle.std.specs.Prelude.{◌≡◌, ℕ, ◌≤◌, List, [], ◌++◌, length, Option, Some}
+use Rattle.std.proofs.Common.{subst, append-nil}
 use Rattle.text_core.specs.Lines.{Line}
 use Rattle.frame_core.specs.declared.replies.Refusal.{Refusal}
-use Rattle.frame_core.specs.Streaming.{IsCount}
 use Rattle.frame_core.specs.Task.{Task, Refuses, IsWithin}
 use Rattle.frame_core.specs.Views.{refusal_value}
 use Rattle.cmd_recheck.specs.declared.job.Reading.{Reading}
@@ -29,8 +28,3 @@ refused_at_last {S} task most stands kept refusal bytes same keeps =
 
 pub is_within : (reads : Option ℕ) (most : ℕ) (bytes : List ℕ) → reads ≡ Some most → IsWithin reads bytes → length bytes ≤ most
 is_within reads most bytes is within = subst (λ (r : Option ℕ). IsWithin r bytes) is within
-
--- and no more bytes were counted, so that they can be counted in 32 bits
-pub few_counted : (reads : Option ℕ) (most count : ℕ) → reads ≡ Some most → most < 2 ^ 31 → IsCount reads count → count < 2 ^ 31
-few_counted reads most count is few counted =
-    let within : count ≤ most = subst (λ (r : Option ℕ). IsCount r count) is counted in omega (arith, within, few)

@@ -15,11 +15,6 @@ Keeps task most stands (Good reader) bytes = StandsFor stands (seen reader) byte
 Keeps task most stands (Refused refusal) bytes = (rest : List ℕ) → length (bytes ++ rest) ≤ most → Refuses task (bytes ++ rest) (refusal_value refusal)
 
 -- the invariant of the reader holds
-abbrev pub IsWhole : {S : Type 0} → (S → ℕ → Type 0) → (S → ℕ) → Reading S → Type 0
-IsWhole whole held (Good reader) = IsReader whole held (seen reader)
-IsWhole whole held (Refused refusal) = Unit {0}
-
--- how many bytes a reader was fed; after a fault they aren't counted
-abbrev pub count_of : {S : Type 0} → Reading S → ℕ
-count_of (Good reader) = reader.fed
-count_of (Refused refusal) = 0
+abbrev pub IsWhole : {S : Type 0} → (S → ℕ → Type 0) → Reading S → Type 0
+IsWhole whole (Good reader) = IsReader whole (seen reader)
+IsWhole whole (Refused refusal) = Unit {0}

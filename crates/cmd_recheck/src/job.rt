@@ -1,9 +1,9 @@
 //! The job of `recheck`, for both kinds of certificates: they are read piece by piece, and the verdict is
 //! reported at the end.
-ghost use Rattle.std.specs.Prelude.{◌≡◌, ℕ, ◌+◌, ◌^◌, ◌<◌, ◌≤◌, List, ◌++◌, Some, None, Ok, Err, IfOk, length};
+ghost use Rattle.std.specs.Prelude.{◌≡◌, ℕ, ◌≤◌, List, ◌++◌, Some, None, Ok, Err, IfOk, length};
 ghost use Rattle.line_reader.specs.Reader.{IsReader, StandsFor};
 ghost use Rattle.line_reader.specs.Seen.{seen};
-ghost use Rattle.cmd_recheck.specs.Keeping.{Keeps, IsWhole, count_of};
+ghost use Rattle.cmd_recheck.specs.Keeping.{Keeps, IsWhole};
 ghost use Rattle.frame_core.specs.declared.status.Status.TheVariants.{Done};
 ghost use Rattle.frame_core.specs.Task.{Task, HasReply};
 ghost use Rattle.frame_core.specs.Views.{Judges};
@@ -68,12 +68,10 @@ fn read_on<K: CertificateKind>(
     reader: PieceReader<K::Lines>,
     piece: &[u8],
 ) -> Result<Reading<K::Lines>, AllocError>
-    requires whole { IsReader K.Lines.whole K.Lines.held (seen reader) }
-    requires room { reader.fed + length piece.now < 2 ^ 31 }
-    ensures whole { IfOk result (λ next. IsWhole K.Lines.whole K.Lines.held next) }
+    requires whole { IsReader K.Lines.whole (seen reader) }
+    ensures whole { IfOk result (λ next. IsWhole K.Lines.whole next) }
     ensures keeps { (bytes : List ℕ) → StandsFor K.Lines.stands (seen reader) bytes →
         IfOk result (λ next. Keeps (K.task kind.now) (K.most kind.now) K.Lines.stands next (bytes ++ piece.now)) }
-    ensures count { IfOk result (λ next. count_of next ≤ reader.fed + length piece.now) }
 {
     match reader.feed(piece) {
         Ok(reader) => Ok(Reading::Good(reader)),
@@ -109,7 +107,7 @@ fn reply_of<K: CertificateKind>(
     kind: &K,
     kept: Reading<K::Lines>,
 ) -> Result<Reply, Stop>
-    requires { IsWhole K.Lines.whole K.Lines.held kept }
+    requires { IsWhole K.Lines.whole kept }
     ensures { (bytes : List ℕ) → Keeps (K.task kind.now) (K.most kind.now) K.Lines.stands kept bytes →
         length bytes ≤ K.most kind.now →
         Judges (K.task kind.now) bytes result }
@@ -130,15 +128,15 @@ pub struct Recheck<K>(pub K);
 impl<K: CertificateKind> StreamJob for Recheck<K> {
     ghost task = { λ job. K.task job.0 };
 
-    ghost ready = { λ job. K.most job.0 < 2 ^ 31 };
+    ghost ready = { λ _. Unit {0} };
 
     type Kept = Reading<K::Lines>;
 
     ghost holds = { λ job kept bytes. Keeps (K.task job.0) (K.most job.0) K.Lines.stands kept bytes };
 
-    ghost whole = { λ _ kept. IsWhole K.Lines.whole K.Lines.held kept };
+    ghost whole = { λ _ kept. IsWhole K.Lines.whole kept };
 
-    ghost count = { λ _ kept. count_of kept };
+    ghost count = { λ _ _. 0 };
 
     fn reads(&self) -> Option<usize> {
         Some(self.0.most_bytes())

@@ -10,14 +10,14 @@ use depth_file::{DepthError, DepthVerdict};
 use frame_core::Stop;
 use std::alloc::{AllocError, Global};
 
-/// The most bytes of a certificate that may be asked for: lines are numbered by 31 bits.
-pub const MOST_OF_LONG: u32 = 2_147_483_647;
+/// The most bytes of a certificate that may be asked for: 1 TiB.
+pub const MOST_OF_LONG: u64 = 1_099_511_627_776;
 
 /// The certificates of the fewest steps of at most so many bytes.
 #[derive(Drop)]
 pub struct LongSteps {
     /// The most bytes.
-    pub most: u32,
+    pub most: u64,
 }
 
 impl CertificateKind for LongSteps {
@@ -49,7 +49,7 @@ impl CertificateKind for LongSteps {
 #[derive(Drop)]
 pub struct LongLevels {
     /// The most bytes.
-    pub most: u32,
+    pub most: u64,
 }
 
 impl CertificateKind for LongLevels {

@@ -46,11 +46,6 @@ IsStage (stages.Within f reader) = IsRunning f
 IsStage (stages.End verdict) = Unit {0}
 IsStage (stages.Done verdict) = Unit {0}
 
--- how many bytes the certificate reader was fed, if there is one
-abbrev pub fed_of : Stage → ℕ
-fed_of (stages.Prefix reader) = reader.fed
-fed_of stage = 0
-
 -- the stage isn't within the certificate at the head
 abbrev pub IsAfterPrefix : Stage → Type 0
 IsAfterPrefix (stages.Prefix reader) = ⊥

@@ -1,13 +1,13 @@
 //! The certificate at the head of a depth certificate. Its lines go to the certificate reader, which returns the
 //! header and the chain after the first line `end`.
-ghost use Rattle.std.specs.Prelude.{◌≡◌, ◌+◌, ◌^◌, ◌<◌, ◌≤◌, ℕ, List, ◌∷◌, length, IfOk};
-ghost use Rattle.text_core.specs.Lines.{Line, line_bytes};
+ghost use Rattle.std.specs.Prelude.{◌≡◌, ◌+◌, ℕ, List, ◌∷◌, IfOk};
+ghost use Rattle.text_core.specs.Lines.{Line};
 ghost use Rattle.line_reader.specs.Splits.{HasNoEnd};
 ghost use Rattle.cert_file.specs.Reader.{seen, IsReader};
 ghost use Rattle.line_reader.specs.TextLines.{line_of};
 ghost use Rattle.depth_theory.specs.DepthJudging.{Answer};
 ghost use Rattle.depth_file.specs.Prefixes.{as_whole, IsInPrefix, IsAfter};
-ghost use Rattle.depth_file.specs.Stages.{IsStage, IsAfterPrefix, Judged, fed_of};
+ghost use Rattle.depth_file.specs.Stages.{IsStage, IsAfterPrefix, Judged};
 
 use crate::stage::{LeveledChain, Stage};
 use cert_file::{
@@ -36,7 +36,6 @@ pub(crate) fn after_certificate(
 ) -> Result<Stage, DepthError>
     requires { IsReader (seen reader) }
     ensures keeps { IfOk result IsStage }
-    ensures fed { IfOk result (λ s. fed_of s ≡ 0) }
     ensures following { IfOk result IsAfterPrefix }
     ensures answer { (number : ℕ) (ls : List Line) (answer : Answer) → IsAfter reader number ls answer →
         Judged result number ls answer }
@@ -77,9 +76,7 @@ pub(crate) fn at_prefix(
     line: &TextLine,
 ) -> Result<Stage, DepthError>
     requires whole { IsReader (seen reader) }
-    requires room { reader.fed + length (line_bytes (line_of line.now)) < 2 ^ 31 }
     ensures keeps { IfOk result IsStage }
-    ensures fed { IfOk result (λ s. fed_of s ≤ reader.fed + length (line_bytes (line_of line.now))) }
     ensures answer { (lines ls : List Line) (answer : Answer) → HasNoEnd line.now.text.now →
         IsInPrefix reader line.now.number lines answer →
         lines ≡ line_of line.now ∷ ls → Judged result (line.now.number + 1) ls answer }

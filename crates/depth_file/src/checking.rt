@@ -1,5 +1,5 @@
 //! Whole texts, judged as one piece.
-ghost use Rattle.std.specs.Prelude.{◌^◌, ◌<◌, length, Ok, IfOk};
+ghost use Rattle.std.specs.Prelude.{length, Ok, IfOk};
 ghost use Rattle.text_core.specs.Lines.{lines_of};
 ghost use Rattle.op_basis.specs.Basis.{members};
 ghost use Rattle.tt_core.specs.Words.{specification};
@@ -15,7 +15,6 @@ use std::alloc::Global;
 
 /// Judges a text as the definition does.
 fn judge(alloc: Global, bytes: &[u8]) -> Result<DepthVerdict, DepthError>
-    requires { length bytes.now < 2 ^ 31 }
     ensures { judging.Judged (Gives (λ v. v) result) (lines_of bytes.now) }
 {
     let reader = DepthReader::new(alloc).feed(bytes)?;
@@ -25,7 +24,6 @@ fn judge(alloc: Global, bytes: &[u8]) -> Result<DepthVerdict, DepthError>
 /// Judges a text as a depth certificate: returns its verdict, or else its first fault.
 #[tactic(auto, using(crate::specs::EndLaws::judges))]
 pub fn check_depth(alloc: Global, bytes: &[u8]) -> Result<DepthVerdict, DepthError>
-    requires { length bytes.now < 2 ^ 31 }
     // A text with a verdict is that of a depth certificate with the same verdict, and each such text has one.
     ensures verdict { IfOk result (λ v. HasDepth bytes.now v) }
     ensures accepted { (b : DepthCertificate) → IsDepthText bytes.now b → Gives (λ v. v) result (Ok b.verdict) }

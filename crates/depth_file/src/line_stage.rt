@@ -1,7 +1,7 @@
 //! Depth certificates as texts that are read line by line.
 ghost use Rattle.std.specs.Prelude.{Err};
 ghost use Rattle.depth_file.specs.EndLaws.{ended};
-ghost use Rattle.depth_file.specs.Stages.{IsStage, fed_of};
+ghost use Rattle.depth_file.specs.Stages.{IsStage};
 ghost use Rattle.depth_file.specs.StageAnswers.{AnswersText, Refuses, Ends};
 
 use crate::stage::Stage;
@@ -17,8 +17,6 @@ impl LineStage for Stage {
     type End = DepthVerdict;
 
     ghost whole = { λ stage number. IsStage stage };
-
-    ghost held = { λ stage. fed_of stage };
 
     ghost stands = { λ stage number lines all. AnswersText stage number lines all };
 

@@ -1,7 +1,7 @@
 //! The steps from stage to stage, one line at a time. The argument: a stage determines the answer of the whole
 //! text, whatever lines follow. So the first refusal is that of the text, and the last stage has its answer.
-ghost use Rattle.std.specs.Prelude.{◌≡◌, ◌+◌, ◌^◌, ◌<◌, ◌≤◌, ℕ, List, [], ◌∷◌, length, drop, IfOk};
-ghost use Rattle.text_core.specs.Lines.{Line, line_bytes};
+ghost use Rattle.std.specs.Prelude.{◌≡◌, ◌+◌, ◌<◌, ℕ, List, [], ◌∷◌, length, drop, IfOk};
+ghost use Rattle.text_core.specs.Lines.{Line};
 ghost use Rattle.enc_theory.specs.declared.subproblem.Subproblem.TheVariants.{Levels};
 ghost use Rattle.cert_theory.specs.Certificate as certificates;
 ghost use Rattle.cert_theory.specs.Judging.{low_with as low_with_of};
@@ -14,7 +14,7 @@ ghost use Rattle.depth_theory.specs.DepthJudging.{Answer};
 ghost use Rattle.depth_file.specs.Stages as stages;
 ghost use Rattle.depth_file.specs.Stages.{IsStage, IsByFences, IsFenceCursor, IsRunning, IsNext, IsAfterPrefix};
 ghost use Rattle.depth_file.specs.Stages.{IsBegun, IsLogging, AnswersLines, Judged};
-ghost use Rattle.depth_file.specs.Stages.{due_of, later_of, fed_of, fences_from};
+ghost use Rattle.depth_file.specs.Stages.{due_of, later_of, fences_from};
 
 use crate::certificate::{after_certificate, at_prefix};
 use crate::fences::flatter_subproblems;
@@ -72,7 +72,6 @@ fn found(low: Option<u32>, levels: u32) -> DepthVerdict
 fn at_depth(alloc: Global, chain: LeveledChain, line: &TextLine) -> Result<Stage, DepthError>
     requires { IsByFences chain }
     ensures keeps { IfOk result IsStage }
-    ensures fed { IfOk result (λ s. fed_of s ≡ 0) }
     ensures answer { (ls : List Line) (answer : Answer) →
         answer ≡ judging.after_chain chain.header chain.size chain.levels line.now.number (line_of line.now ∷ ls) →
         Judged result (line.now.number + 1) ls answer }
@@ -94,7 +93,6 @@ fn at_depth(alloc: Global, chain: LeveledChain, line: &TextLine) -> Result<Stage
 fn at_due(alloc: Global, flat: FenceCursor, line: &TextLine) -> Result<Stage, DepthError>
     requires { IsFenceCursor flat }
     ensures keeps { IfOk result (λ s. IsStage s) }
-    ensures fed { IfOk result (λ s. fed_of s ≡ 0) }
     ensures answer { (lines ls : List Line) (answer : Answer) →
         answer ≡ fences_from flat line.now.number flat.low (judging.Due (due_of flat)) lines →
         lines ≡ line_of line.now ∷ ls → Judged result (line.now.number + 1) ls answer }
@@ -128,7 +126,6 @@ fn formula_of(alloc: Global, flat: &FenceCursor) -> Result<Cnf, AllocError>
 fn at_begun(alloc: Global, flat: FenceCursor, line: &TextLine) -> Result<Stage, DepthError>
     requires { IsRunning flat }
     ensures keeps { IfOk result (λ s. IsStage s) }
-    ensures fed { IfOk result (λ s. fed_of s ≡ 0) }
     ensures answer { (lines ls : List Line) (answer : Answer) → IsBegun flat line.now.number lines answer →
         lines ≡ line_of line.now ∷ ls → Judged result (line.now.number + 1) ls answer }
 {
@@ -145,7 +142,6 @@ fn at_begun(alloc: Global, flat: FenceCursor, line: &TextLine) -> Result<Stage, 
 fn following(flat: FenceCursor, end: LogEnd) -> Stage
     requires { IsRunning flat }
     ensures keeps { IsStage result }
-    ensures fed { fed_of result ≡ 0 }
     ensures stands { (number : ℕ) (fence : List ℕ) (ls : List Line) (answer : Answer) → IsNext flat fence →
         answer ≡ fences_from flat number (low_with_of flat.low end (length fence)) (judging.Due (later_of flat)) ls →
         AnswersLines result number ls answer }
@@ -167,7 +163,6 @@ fn at_within(
 ) -> Result<Stage, DepthError>
     requires { IsRunning flat }
     ensures keeps { IfOk result (λ s. IsStage s) }
-    ensures fed { IfOk result (λ s. fed_of s ≡ 0) }
     ensures answer { (lines ls : List Line) (answer : Answer) → IsLogging flat reader line.now.number lines answer →
         lines ≡ line_of line.now ∷ ls → Judged result (line.now.number + 1) ls answer }
 {
@@ -183,7 +178,6 @@ fn at_within(
 #[tactic(auto, unfolding(depth_theory::specs::DepthJudging::end_of))]
 fn at_end(verdict: DepthVerdict, line: &TextLine) -> Result<Stage, DepthError>
     ensures keeps { IfOk result (λ s. IsStage s) }
-    ensures fed { IfOk result (λ s. fed_of s ≡ 0) }
     ensures answer { (ls : List Line) (answer : Answer) →
         answer ≡ judging.end_of line.now.number verdict (line_of line.now ∷ ls) →
         Judged result (line.now.number + 1) ls answer }
@@ -197,9 +191,7 @@ fn at_end(verdict: DepthVerdict, line: &TextLine) -> Result<Stage, DepthError>
 /// Reads the next line.
 pub(crate) fn take(alloc: Global, stage: Stage, line: &TextLine) -> Result<Stage, DepthError>
     requires stage { IsStage stage }
-    requires room { fed_of stage + length (line_bytes (line_of line.now)) < 2 ^ 31 }
     ensures keeps { IfOk result (λ s. IsStage s) }
-    ensures fed { IfOk result (λ s. fed_of s ≤ fed_of stage + length (line_bytes (line_of line.now))) }
     ensures answer { (lines ls : List Line) (answer : Answer) → HasNoEnd line.now.text.now →
         AnswersLines stage line.now.number lines answer →
         lines ≡ line_of line.now ∷ ls → Judged result (line.now.number + 1) ls answer }

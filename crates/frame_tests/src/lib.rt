@@ -21,4 +21,6 @@ mod front;
 #[cfg(test)]
 mod hearing;
 #[cfg(test)]
+mod numbering;
+#[cfg(test)]
 mod tests;

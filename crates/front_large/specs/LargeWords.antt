@@ -1,5 +1,5 @@
 -- The words of a line without files: options of the front alone, and those of a command.
-use Rattle.std.specs.Prelude.{ℕ, ◌-◌, ◌^◌, ◌<◌, ◌≤◌, nat_lt, Bool, true, false, if◌then◌else◌, List, [], ◌∷◌}
+use Rattle.std.specs.Prelude.{ℕ, ◌-◌, ◌≤◌, nat_lt, Bool, true, false, if◌then◌else◌, List, [], ◌∷◌}
 use Rattle.std.specs.Prelude.{◌++◌, codes, Option, Some, None, is_some}
 use Rattle.std.specs.Str.{bytes_eq}
 use Rattle.text_core.specs.Limits.{most_number}
@@ -18,7 +18,7 @@ is_same = bytes_eq
 
 -- the most bytes of a certificate that may be asked for
 abbrev pub most_of_long : ℕ
-most_of_long = 2147483647
+most_of_long = 1099511627776
 
 abbrev pub size_in : List ℕ → Option ℕ
 size_in value = number_up_to most_steps value
@@ -103,7 +103,7 @@ abbrev pub most_by : Given → Option ℕ → Option ℕ
 most_by g None = None
 most_by g (Some most) =
     if is_some g.size then None
-    else (if is_some g.part then None else (if nat_lt most_of_long most then None else Some most))
+    else (if is_some g.part then None else Some most)
 
 abbrev pub most_for : Given → Option ℕ
 most_for g = most_by g g.most
@@ -134,11 +134,8 @@ large_in (name ∷ options) = large_of (given_from (first_given name) options)
 
 -- ---- ranges
 
-abbrev pub IsFew : ℕ → Type 0
-IsFew most = most < 2 ^ 31
-
 -- settings and sizes are in their ranges
 abbrev pub IsReady : Large → Type 0
 IsReady (Part part) = IsInRange part.settings × (part.size ≤ part.settings.max)
-IsReady (Steps most) = IsFew most
-IsReady (Levels most) = IsFew most
+IsReady (Steps most) = Unit {0}
+IsReady (Levels most) = Unit {0}

@@ -8,7 +8,7 @@ pub enum Large {
     /// The text of a part of a search.
     Part(PartOfSearch),
     /// The verdict of a certificate of the fewest steps of at most so many bytes.
-    Steps(u32),
+    Steps(u64),
     /// The same of a certificate of the fewest levels.
-    Levels(u32),
+    Levels(u64),
 }

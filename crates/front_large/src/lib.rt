@@ -16,6 +16,7 @@
 #![tactic(auto)]
 
 mod asking;
+mod bytes;
 mod large;
 mod serving;
 mod tasks;

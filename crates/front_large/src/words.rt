@@ -6,9 +6,9 @@ ghost use Rattle.command_line.specs.CommandLine.{spelled, IsAskable};
 ghost use Rattle.front_large.specs.LargeWords as spec;
 ghost use Rattle.front_large.specs.LargeValues.{given_value};
 
+use crate::bytes::bytes_in;
 use crate::large::Large;
 use cmd_part::PartOfSearch;
-use cmd_recheck::MOST_OF_LONG;
 use command_line::{Command, SynthSettings, read_words};
 use settings::MOST_STEPS;
 use std::alloc::{AllocError, Global};
@@ -24,7 +24,7 @@ pub struct LargeWords {
     /// The value of `--part`.
     pub part: Option<u32>,
     /// The value of `--most-bytes`.
-    pub most: Option<u32>,
+    pub most: Option<u64>,
     /// Whether all options could be read, each at most once.
     pub good: bool,
 }
@@ -68,7 +68,7 @@ fn take_part(given: &mut LargeWords, value: &[u8])
 fn take_most(given: &mut LargeWords, value: &[u8])
     ensures { given_value given.new ≡ spec.bounded (given_value given.old) (spec.most_in value.now) }
 {
-    match number_up_to(MOST_OF_LONG, value) {
+    match bytes_in(value) {
         Some(most) if given.most.is_none() => given.most = Some(most),
         _ => given.good = false,
     }
@@ -180,9 +180,8 @@ fn part_for(settings: SynthSettings, given: &LargeWords) -> Option<Large>
 }
 
 /// The most bytes of a certificate, if they are named, and nothing else.
-fn most_for(given: &LargeWords) -> Option<u32>
-    ensures exact { result ≡ spec.most_for (given_value given.now) }
-    ensures few { IfSome result spec.IsFew }
+fn most_for(given: &LargeWords) -> Option<u64>
+    ensures { result ≡ spec.most_for (given_value given.now) }
 {
     let Some(most) = given.most else {
         return None;
@@ -191,9 +190,6 @@ fn most_for(given: &LargeWords) -> Option<u32>
         return None;
     }
     if given.part.is_some() {
-        return None;
-    }
-    if MOST_OF_LONG < most {
         return None;
     }
     Some(most)

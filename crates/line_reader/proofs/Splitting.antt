@@ -1,5 +1,5 @@
 -- A reader and the text that it represents, after one more piece.
-use Rattle.std.proofs.Common.{◌≡◌, ℕ, ◌+◌, true, List, [], ◌∷◌, ◌++◌, length, Result, Ok, Err, refl, sym, ap, subst, ◌∙◌, arith, append_assoc, append-nil, length-append}
+use Rattle.std.proofs.Common.{◌≡◌, ℕ, ◌+◌, true, List, [], ◌∷◌, ◌++◌, Result, Ok, Err, sym, ap, subst, ◌∙◌, append_assoc, append-nil}
 use Rattle.std.specs.Result.{IsErrAnd}
 use Rattle.std.specs.List.{flat_map}
 use Rattle.std.proofs.lemmas.Grind.{common_steps}
@@ -17,41 +17,29 @@ Standing S = S → ℕ → List Line → List Line → Type 0
 
 pub stands_new : {S : Type 0} (stands : Standing S) (stage : S) (unfinished : List ℕ) → unfinished ≡ [] →
     ((text : List ℕ) → stands stage 1 (lines_of text) (lines_of text)) →
-    StandsFor stands (record { stage = stage; number = 1; unfinished = unfinished; fed = 0 }) []
+    StandsFor stands (record { stage = stage; number = 1; unfinished = unfinished }) []
 stands_new {S} stands stage unfinished none begins =
-    subst (λ (xs : List ℕ). StandsFor stands (record { stage = stage; number = 1; unfinished = xs; fed = 0 }) []) (sym none)
-    (record { fed_is = refl; split = split_none; stands = begins })
+    subst (λ (xs : List ℕ). StandsFor stands (record { stage = stage; number = 1; unfinished = xs }) []) (sym none)
+    (record { split = split_none; stands = begins })
 
 -- a text without an LF joins the unfinished line
-part_stands : {S : Type 0} (stands : Standing S) (stage : S) (number fed : ℕ) (unfinished before text : List ℕ) →
-    HasNoEnd text → StandsFor stands (record {
-      stage = stage;
-      number = number;
-      unfinished = unfinished;
-      fed = fed;
-    }) before → StandsFor stands (record {
-      stage = stage;
-      number = number;
-      unfinished =
-          unfinished ++ text;
-      fed = fed + length text;
-    }) (before ++ text)
-part_stands {S} stands stage number fed unfinished before text free is = record {
-  fed_is = let count = length-append before text in omega (arith, count, is.fed_is);
+part_stands : {S : Type 0} (stands : Standing S) (stage : S) (number : ℕ) (unfinished before text : List ℕ) →
+    HasNoEnd text → StandsFor stands (record { stage = stage; number = number; unfinished = unfinished }) before →
+    StandsFor stands (record { stage = stage; number = number; unfinished = unfinished ++ text }) (before ++ text)
+part_stands {S} stands stage number unfinished before text free is = record {
   split = split_part before text unfinished number is.split free;
   stands = λ rest.
       subst (λ (lines : List Line). stands stage number lines (lines_of ((before ++ text) ++ rest))) (lines_on unfinished text rest free)
       (subst (λ (whole : List ℕ). stands stage number (lines_from unfinished (text ++ rest)) (lines_of whole)) (sym (append_assoc before text rest)) (is.stands (text ++ rest)));
 }
 
-pub stands_part : {S : Type 0} (stands : Standing S) (stage : S) (number fed : ℕ)
+pub stands_part : {S : Type 0} (stands : Standing S) (stage : S) (number : ℕ)
     (unfinished longer before text : List ℕ) → HasNoEnd text → longer ≡ unfinished ++ text →
-    StandsFor stands (record { stage = stage; number = number; unfinished = unfinished; fed = fed }) before →
-    StandsFor stands (record { stage = stage; number = number; unfinished = longer; fed = fed + length text })
-    (before ++ text)
-stands_part {S} stands stage number fed unfinished longer before text free same is =
-    subst (λ (xs : List ℕ). StandsFor stands (record { stage = stage; number = number; unfinished = xs; fed = fed + length text }) (before ++ text)) (sym same)
-    (part_stands stands stage number fed unfinished before text free is)
+    StandsFor stands (record { stage = stage; number = number; unfinished = unfinished }) before →
+    StandsFor stands (record { stage = stage; number = number; unfinished = longer }) (before ++ text)
+stands_part {S} stands stage number unfinished longer before text free same is =
+    subst (λ (xs : List ℕ). StandsFor stands (record { stage = stage; number = number; unfinished = xs }) (before ++ text)) (sym same)
+    (part_stands stands stage number unfinished before text free is)
 
 -- ---- a whole line
 
@@ -61,12 +49,12 @@ WasTaken stands refuses stage number line result = (lines ls all : List Line) �
     IsPlace number lines all → stands stage number lines all → lines ≡ record { text = line; ended = true } ∷ ls →
     Judged stands refuses result (number + 1) ls all
 
-judged_line : {S F : Type 0} (stands : Standing S) (refuses : F → List Line → Type 0) (stage : S) (number fed : ℕ)
+judged_line : {S F : Type 0} (stands : Standing S) (refuses : F → List Line → Type 0) (stage : S) (number : ℕ)
     (unfinished before text line rest : List ℕ) (result : Result S F) → HasNoEnd text → line ≡ unfinished ++ text →
     WasTaken stands refuses stage number line result →
-    StandsFor stands (record { stage = stage; number = number; unfinished = unfinished; fed = fed }) before →
+    StandsFor stands (record { stage = stage; number = number; unfinished = unfinished }) before →
     Judged stands refuses result (number + 1) (lines_of rest) (lines_of ((before ++ with_end text) ++ rest))
-judged_line {S} {F} stands refuses stage number fed unfinished before text line rest result free same taken is =
+judged_line {S} {F} stands refuses stage number unfinished before text line rest result free same taken is =
     subst (λ (whole : List ℕ). Judged stands refuses result (number + 1) (lines_of rest) (lines_of whole)) (sym (append_assoc before (with_end text) rest))
     (taken (lines_from unfinished (with_end text ++ rest)) (lines_of rest) (lines_of (before ++ (with_end text ++ rest)))
     (subst HasNoEnd (sym same) (free_both 10 unfinished text is.split.is_unfinished free))
@@ -74,27 +62,26 @@ judged_line {S} {F} stands refuses stage number fed unfinished before text line 
     (is.stands (with_end text ++ rest))
     (line_on unfinished text rest free ∙ ap (λ (xs : List ℕ). let l : Line = record { text = xs; ended = true } in l ∷ lines_of rest) (sym same)))
 
-pub stands_line : {S F : Type 0} (stands : Standing S) (refuses : F → List Line → Type 0) (stage : S) (number fed : ℕ)
+pub stands_line : {S F : Type 0} (stands : Standing S) (refuses : F → List Line → Type 0) (stage : S) (number : ℕ)
     (unfinished before text line left : List ℕ) (next : S) → HasNoEnd text → line ≡ unfinished ++ text → left ≡ [] →
     WasTaken stands refuses stage number line (Ok next) →
-    StandsFor stands (record { stage = stage; number = number; unfinished = unfinished; fed = fed }) before →
-    StandsFor stands (record { stage = next; number = number + 1; unfinished = left; fed = fed + length text + 1 })
+    StandsFor stands (record { stage = stage; number = number; unfinished = unfinished }) before →
+    StandsFor stands (record { stage = next; number = number + 1; unfinished = left })
     (before ++ with_end text)
-stands_line {S} {F} stands refuses stage number fed unfinished before text line left next free same none taken is =
-    subst (λ (xs : List ℕ). StandsFor stands (record { stage = next; number = number + 1; unfinished = xs; fed = fed + length text + 1 }) (before ++ with_end text)) (sym none)
+stands_line {S} {F} stands refuses stage number unfinished before text line left next free same none taken is =
+    subst (λ (xs : List ℕ). StandsFor stands (record { stage = next; number = number + 1; unfinished = xs }) (before ++ with_end text)) (sym none)
     (record {
-      fed_is = let one = length-append before (with_end text) in let two = length-append text (10 ∷ []) in omega (arith, one, two, is.fed_is);
       split = split_line before text unfinished number is.split free;
-      stands = λ rest. judged_line stands refuses stage number fed unfinished before text line rest (Ok next) free same taken is;
+      stands = λ rest. judged_line stands refuses stage number unfinished before text line rest (Ok next) free same taken is;
     })
 
-pub refused_line : {S F : Type 0} (stands : Standing S) (refuses : F → List Line → Type 0) (stage : S) (number fed : ℕ)
+pub refused_line : {S F : Type 0} (stands : Standing S) (refuses : F → List Line → Type 0) (stage : S) (number : ℕ)
     (unfinished before text line : List ℕ) (e : F) → HasNoEnd text → line ≡ unfinished ++ text →
     WasTaken stands refuses stage number line (Err e) →
-    StandsFor stands (record { stage = stage; number = number; unfinished = unfinished; fed = fed }) before →
+    StandsFor stands (record { stage = stage; number = number; unfinished = unfinished }) before →
     IsRefused refuses e (before ++ with_end text)
-refused_line {S} {F} stands refuses stage number fed unfinished before text line e free same taken is = λ rest.
-    judged_line stands refuses stage number fed unfinished before text line rest (Err e) free same taken is
+refused_line {S} {F} stands refuses stage number unfinished before text line e free same taken is = λ rest.
+    judged_line stands refuses stage number unfinished before text line rest (Err e) free same taken is
 
 -- a refusal that is passed on
 pub has_err : {R S F : Type 0} (view : R → Reader S) (stands : Standing S) (refuses : F → List Line →

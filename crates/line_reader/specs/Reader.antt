@@ -1,27 +1,21 @@
 -- What a reader promises about the text that it was fed, wherever the pieces ended, in terms of its stage.
-use Rattle.std.specs.Prelude.{◌≡◌, ℕ, ◌+◌, ◌^◌, ◌<◌, ◌≤◌, List, ◌++◌, length, Result, Ok, Err}
+use Rattle.std.specs.Prelude.{ℕ, List, ◌++◌, Result, Ok, Err}
 use Rattle.text_core.specs.Lines.{Line, lines_from, lines_of}
 use Rattle.line_reader.specs.Splits.{IsSplit}
 
--- the stage after the whole lines so far, the number of the next line, what was fed of that line, and how many
--- bytes were fed in all
+-- the stage after the whole lines so far, the number of the next line, and what was fed of that line
 pub record Reader (S : Type 0) : Type 0 where
   pub stage : S
   pub number : ℕ
   pub unfinished : List ℕ
-  pub fed : ℕ
 
--- the invariant of a reader: that of its stage, and it keeps no more bytes than it was fed
-pub record IsReader {S : Type 0} (is_whole : S → ℕ → Type 0) (count : S → ℕ) (r : Reader S) : Type 0 where
+-- the invariant of a reader is that of its stage
+pub record IsReader {S : Type 0} (is_whole : S → ℕ → Type 0) (r : Reader S) : Type 0 where
   pub stage : is_whole r.stage r.number
-  pub number : r.number + length r.unfinished ≤ r.fed + 1
-  pub held : count r.stage + length r.unfinished ≤ r.fed
-  pub fed : r.fed < 2 ^ 31
 
--- A reader represents a text: it was fed as many bytes as the text has, it keeps the unfinished line, and whatever
--- follows, its stage is the state after the whole lines of the text.
+-- A reader represents a text: it keeps the unfinished line, and whatever follows, its stage is the state after the
+-- whole lines of the text.
 pub record StandsFor {S : Type 0} (are_lines : S → ℕ → List Line → List Line → Type 0) (r : Reader S) (text : List ℕ) : Type 0 where
-  pub fed_is : r.fed ≡ length text
   pub split : IsSplit text r.number r.unfinished
   pub stands : (rest : List ℕ) → are_lines r.stage r.number (lines_from r.unfinished rest) (lines_of (text ++ rest))
 

@@ -3,4 +3,4 @@ use Rattle.line_reader.specs.Reader.{Reader}
 use Rattle.line_reader.specs.declared.reader.PieceReader.{PieceReader}
 
 abbrev pub seen : {S : Type 0} → PieceReader S → Reader S
-seen r = record { stage = r.stage; number = r.number; unfinished = r.unfinished.items; fed = r.fed }
+seen r = record { stage = r.stage; number = r.number; unfinished = r.unfinished.items }

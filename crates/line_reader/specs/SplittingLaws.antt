@@ -119,9 +119,3 @@ none_of (x ∷ xs) none = absurd (omega arith)
 
 pub nothing_before : (line unfinished text : List ℕ) → line ≡ text → unfinished ≡ [] → line ≡ unfinished ++ text
 nothing_before line unfinished text same none = same ∙ ap (λ (xs : List ℕ). xs ++ text) (sym none)
-
-pub left_none : (left : List ℕ) → lines_of left ≡ [] → length left ≡ 0
-left_none left none = ap length (sym (lines_spell left) ∙ ap (flat_map line_bytes) none)
-
-pub length_left : (left rest : List ℕ) (l : Line) → lines_of left ≡ l ∷ lines_of rest → length left ≡ length (line_bytes l) + length rest
-length_left left rest l split = ap length (bytes_are left rest l split) ∙ length-append (line_bytes l) rest

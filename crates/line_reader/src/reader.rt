@@ -1,5 +1,5 @@
 //! The reader of a text that comes in pieces, which may end anywhere.
-ghost use Rattle.std.specs.Prelude.{◌≡◌, ◌+◌, ◌^◌, ◌<◌, ◌≤◌, List, ℕ, [], ◌∷◌, ◌++◌, true, length, IfOk};
+ghost use Rattle.std.specs.Prelude.{◌≡◌, ◌+◌, ◌^◌, ◌<◌, List, ℕ, [], ◌∷◌, ◌++◌, true, IfOk};
 ghost use Rattle.text_core.specs.Lines.{Line, lines_of, last_line, line_bytes};
 ghost use Rattle.line_reader.specs.Splits.{HasNoEnd, IsPlace, with_end};
 ghost use Rattle.line_reader.specs.Reader.{Judged, IsReader, StandsFor, HasRead};
@@ -11,6 +11,9 @@ use crate::stage::LineStage;
 use std::alloc::Global;
 use text_core::next_line;
 
+/// The greatest number of a line. A text with more lines counts as running out of memory.
+const MOST_LINES: u32 = 4_294_967_294;
+
 /// The state of a text that was read in part. It keeps the stage and the bytes of the unfinished line; of the
 /// lines before it keeps only what the stage keeps.
 #[derive(Drop)]
@@ -21,8 +24,6 @@ pub struct PieceReader<S> {
     pub number: u32,
     /// The bytes of the next line that were fed so far.
     pub unfinished: Vec<u8>,
-    /// How many bytes were fed in all.
-    pub fed: usize,
 }
 
 /// The state after all lines of a text.
@@ -37,14 +38,17 @@ pub struct Closed<S> {
 /// Hands a whole line, ended by an LF, to the stage.
 fn take_text<S: LineStage>(alloc: Global, stage: S, number: u32, text: &[u8]) -> Result<S, S::Fault>
     requires whole { S.whole stage number }
-    requires number { number < 2 ^ 31 }
-    requires room { S.held stage + length (with_end text.now) < 2 ^ 31 }
+    ensures few { IfOk result (λ s. number + 1 < 2 ^ 32) }
     ensures whole { IfOk result (λ s. S.whole s (number + 1)) }
-    ensures held { IfOk result (λ s. S.held s ≤ S.held stage + length (with_end text.now)) }
     ensures stands { (lines ls all : List Line) → HasNoEnd text.now → IsPlace number lines all →
         S.stands stage number lines all →
         lines ≡ record { text = text.now; ended = true } ∷ ls → Judged S.stands S.refuses result (number + 1) ls all }
 {
+    if number > MOST_LINES {
+        // for the prover: dropped here at once; left to the exit, each of its fields would be
+        drop(stage);
+        return Err(S::no_memory());
+    }
     let line = TextLine {
         text,
         ended: true,
@@ -56,8 +60,6 @@ fn take_text<S: LineStage>(alloc: Global, stage: S, number: u32, text: &[u8]) ->
 /// Hands the last line, which no LF ends, to the stage, unless it is empty.
 fn close<S: LineStage>(stage: S, number: u32, unfinished: &Vec<u8>) -> Result<Closed<S>, S::Fault>
     requires whole { S.whole stage number }
-    requires number { number + length unfinished.now.items ≤ 2 ^ 31 }
-    requires room { S.held stage + length unfinished.now.items < 2 ^ 31 }
     ensures whole { IfOk result (λ closed. S.whole closed.stage closed.number) }
     ensures stands { (all : List Line) → HasNoEnd unfinished.now.items →
         IsPlace number (last_line unfinished.now.items) all →
@@ -65,6 +67,11 @@ fn close<S: LineStage>(stage: S, number: u32, unfinished: &Vec<u8>) -> Result<Cl
 {
     if unfinished.is_empty() {
         return Ok(Closed { stage, number });
+    }
+    if number > MOST_LINES {
+        // for the prover: dropped here at once; left to the exit, each of its fields would be
+        drop(stage);
+        return Err(S::no_memory());
     }
     let line = TextLine {
         text: unfinished,
@@ -84,26 +91,22 @@ impl<S: LineStage> PieceReader<S> {
     /// Nothing was fed yet. The reader itself allocates nothing; its stage may.
     #[tactic(auto, using(crate::proofs::Splitting::readers))]
     pub fn new(alloc: Global) -> PieceReader<S>
-        ensures whole { IsReader S.whole S.held (seen result) }
+        ensures whole { IsReader S.whole (seen result) }
         ensures stands { StandsFor S.stands (seen result) [] }
-        ensures fed { result.fed ≡ 0 }
     {
         PieceReader {
             stage: S::start(alloc),
             number: 1,
             unfinished: Vec::new(alloc),
-            fed: 0,
         }
     }
 
     /// Feeds the next piece of the text. A refusal holds for every text that begins with what was fed.
     pub fn feed(self, piece: &[u8]) -> Result<PieceReader<S>, S::Fault>
-        requires whole { IsReader S.whole S.held (seen self) }
-        requires room { self.fed + length piece.now < 2 ^ 31 }
-        ensures whole { IfOk result (λ reader. IsReader S.whole S.held (seen reader)) }
+        requires whole { IsReader S.whole (seen self) }
+        ensures whole { IfOk result (λ reader. IsReader S.whole (seen reader)) }
         ensures read { (text : List ℕ) → StandsFor S.stands (seen self) text →
             HasRead seen S.stands S.refuses result (text ++ piece.now) }
-        ensures fed { IfOk result (λ reader. reader.fed ≡ self.fed + length piece.now) }
     {
         let mut reader = self;
         let mut left = piece;
@@ -116,13 +119,10 @@ impl<S: LineStage> PieceReader<S> {
 
     /// Feeds a text without an LF, and then an LF if `ended`.
     pub fn feed_line(self, text: &[u8], ended: bool) -> Result<PieceReader<S>, S::Fault>
-        requires whole { IsReader S.whole S.held (seen self) }
-        requires room { self.fed + length (line_bytes (record { text = text.now; ended = ended })) < 2 ^ 31 }
-        ensures whole { IfOk result (λ reader. IsReader S.whole S.held (seen reader)) }
+        requires whole { IsReader S.whole (seen self) }
+        ensures whole { IfOk result (λ reader. IsReader S.whole (seen reader)) }
         ensures read { (before : List ℕ) → HasNoEnd text.now → StandsFor S.stands (seen self) before →
             HasRead seen S.stands S.refuses result (before ++ line_bytes (record { text = text.now; ended = ended })) }
-        ensures fed { IfOk result (λ reader. reader.fed ≡
-            self.fed + length (line_bytes (record { text = text.now; ended = ended }))) }
     {
         if ended {
             return self.end_line(text);
@@ -131,7 +131,6 @@ impl<S: LineStage> PieceReader<S> {
             stage,
             number,
             unfinished,
-            fed,
         } = self;
         let mut unfinished = unfinished;
         if unfinished.extend_from_slice(text).is_err() {
@@ -143,24 +142,20 @@ impl<S: LineStage> PieceReader<S> {
             stage,
             number,
             unfinished,
-            fed: fed + text.len(),
         })
     }
 
     /// Feeds the rest of a line and its LF. A line that lies in one piece isn't copied.
     fn end_line(self, text: &[u8]) -> Result<PieceReader<S>, S::Fault>
-        requires whole { IsReader S.whole S.held (seen self) }
-        requires room { self.fed + length text.now + 1 < 2 ^ 31 }
-        ensures whole { IfOk result (λ reader. IsReader S.whole S.held (seen reader)) }
+        requires whole { IsReader S.whole (seen self) }
+        ensures whole { IfOk result (λ reader. IsReader S.whole (seen reader)) }
         ensures read { (before : List ℕ) → HasNoEnd text.now → StandsFor S.stands (seen self) before →
             HasRead seen S.stands S.refuses result (before ++ with_end text.now) }
-        ensures fed { IfOk result (λ reader. reader.fed ≡ self.fed + length text.now + 1) }
     {
         let PieceReader {
             stage,
             number,
             unfinished,
-            fed,
         } = self;
         let alloc = *unfinished.allocator();
         if unfinished.is_empty() {
@@ -169,7 +164,6 @@ impl<S: LineStage> PieceReader<S> {
                 stage,
                 number: number + 1,
                 unfinished,
-                fed: fed + text.len() + 1,
             });
         }
         let mut line = unfinished;
@@ -184,13 +178,12 @@ impl<S: LineStage> PieceReader<S> {
             stage,
             number: number + 1,
             unfinished: line,
-            fed: fed + text.len() + 1,
         })
     }
 
     /// Ends the text: the state after all its lines.
     pub fn closed(self) -> Result<Closed<S>, S::Fault>
-        requires { IsReader S.whole S.held (seen self) }
+        requires { IsReader S.whole (seen self) }
         ensures whole { IfOk result (λ closed. S.whole closed.stage closed.number) }
         ensures stands { (text : List ℕ) → StandsFor S.stands (seen self) text →
             HasClosed S.stands S.refuses result (lines_of text) }
@@ -199,14 +192,13 @@ impl<S: LineStage> PieceReader<S> {
             stage,
             number,
             unfinished,
-            ..
         } = self;
         close(stage, number, &unfinished)
     }
 
     /// Ends the text: its result.
     pub fn finish(self) -> Result<S::End, S::Fault>
-        requires { IsReader S.whole S.held (seen self) }
+        requires { IsReader S.whole (seen self) }
         ensures { (text : List ℕ) → StandsFor S.stands (seen self) text → S.gives result text }
     {
         let alloc = *self.unfinished.allocator();

@@ -1,6 +1,6 @@
 //! The trait of state machines that take the lines of a text one by one.
-ghost use Rattle.std.specs.Prelude.{◌≡◌, ℕ, ◌+◌, ◌^◌, ◌<◌, ◌≤◌, List, [], ◌∷◌, length, Result, Err, IfOk};
-ghost use Rattle.text_core.specs.Lines.{Line, lines_of, line_bytes};
+ghost use Rattle.std.specs.Prelude.{◌≡◌, ℕ, ◌+◌, ◌^◌, ◌<◌, List, [], ◌∷◌, Result, Err, IfOk};
+ghost use Rattle.text_core.specs.Lines.{Line, lines_of};
 ghost use Rattle.line_reader.specs.TextLines.{line_of};
 ghost use Rattle.line_reader.specs.Splits.{HasNoEnd, IsPlace};
 ghost use Rattle.line_reader.specs.Reader.{Judged};
@@ -19,9 +19,6 @@ pub trait LineStage: Drop + Sized {
     /// The invariant of a stage, given the number of the next line.
     ghost whole: { Self → ℕ → Type 0 };
 
-    /// How many bytes of the lines so far it keeps and counts.
-    ghost held: { Self → ℕ };
-
     /// It is the state of the text with all these lines (third argument), where the next line has this number
     /// (first) and these lines come next (second).
     ghost stands: { Self → ℕ → List Line → List Line → Type 0 };
@@ -35,16 +32,13 @@ pub trait LineStage: Drop + Sized {
     /// The state before the first line.
     fn start(alloc: Global) -> Self
         ensures whole { whole result 1 }
-        ensures held { held result ≡ 0 }
         ensures stands { (text : List ℕ) → stands result 1 (lines_of text) (lines_of text) };
 
     /// Takes the next line. A refusal holds for every text that begins with the lines so far.
     fn take(self, alloc: Global, line: &TextLine) -> Result<Self, Self::Fault>
         requires whole { whole self line.now.number }
-        requires number { line.now.number < 2 ^ 31 }
-        requires room { held self + length (line_bytes (line_of line.now)) < 2 ^ 31 }
+        requires number { line.now.number < 2 ^ 32 }
         ensures whole { IfOk result (λ s. whole s (line.now.number + 1)) }
-        ensures held { IfOk result (λ s. held s ≤ held self + length (line_bytes (line_of line.now))) }
         ensures stands { (lines ls all : List Line) → HasNoEnd line.now.text.now → IsPlace line.now.number lines all →
             stands self line.now.number lines all → lines ≡ line_of line.now ∷ ls →
             Judged stands refuses result (line.now.number + 1) ls all };

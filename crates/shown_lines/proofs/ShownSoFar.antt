@@ -1,7 +1,6 @@
 -- The shown lines of a text, line by line.
-use Rattle.std.specs.Prelude.{◌≡◌, ℕ, ◌+◌, ◌≤◌, length, Bool, true, false, List, [], ◌∷◌, ◌++◌, if◌then◌else◌}
-use Rattle.std.proofs.Common.{sym, ◌∙◌, ap, append_assoc, append-nil, arith}
-use Rattle.std.proofs.lemmas.List.{length-append}
+use Rattle.std.specs.Prelude.{◌≡◌, ℕ, Bool, true, false, List, [], ◌∷◌, ◌++◌, if◌then◌else◌}
+use Rattle.std.proofs.Common.{sym, ◌∙◌, ap, append_assoc, append-nil}
 use Rattle.std.proofs.lemmas.Grind.{common_steps}
 use Rattle.text_core.specs.Lines.{Line, line_bytes}
 use Rattle.shown_lines.specs.Shown.{is_shown, shown_of}
@@ -19,9 +18,6 @@ written old between new text ended has first then_is =
     ap (λ (b : Bool). old ++ (if b then text ++ 10 ∷ [] else text)) (sym has)
 
 pub ruleset writing = (common_steps, unended, written)
-
-pub no_longer : (old new line : List ℕ) → new ≡ old ++ line → length new ≤ length old + length line
-no_longer old new line is = let e : length new ≡ length old + length line = ap length is ∙ length-append old line in omega (arith, e)
 
 pub hidden : (shown : List ℕ) (l : Line) (lines ls all : List Line) → is_shown l.text ≡ false →
     shown_of all ≡ shown ++ shown_of lines → lines ≡ l ∷ ls → shown_of all ≡ shown ++ shown_of ls
@@ -44,4 +40,4 @@ pub at_last : (shown : List ℕ) (all : List Line) → shown_of all ≡ shown ++
 unfolding shown_of
 at_last shown all stands = sym (stands ∙ append-nil shown)
 
-pub ruleset showing = (common_steps, no_longer, hidden, more, at_last)
+pub ruleset showing = (common_steps, hidden, more, at_last)

@@ -5,9 +5,9 @@ use Rattle.frame_core.specs.Reported.{Reply, Refusal}
 use Rattle.frame_core.specs.Task.{Task, at_once}
 use Rattle.shown_lines.specs.Shown.{shown_text}
 
--- the most bytes that are read: 2 GiB and one byte less
+-- the most bytes that are read: 1 TiB
 abbrev pub most_shown : ℕ
-most_shown = 2147483647
+most_shown = 1099511627776
 
 pub record IsShownText (bytes text : List ℕ) : Type 0 where
   pub within : length bytes ≤ most_shown

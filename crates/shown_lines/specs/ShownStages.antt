@@ -1,5 +1,5 @@
 -- The state of showing the lines of an answer.
-use Rattle.std.specs.Prelude.{◌≡◌, ℕ, List, ◌++◌, length}
+use Rattle.std.specs.Prelude.{◌≡◌, ℕ, List, ◌++◌}
 use Rattle.text_core.specs.Lines.{Line}
 use Rattle.shown_lines.specs.declared.stage.ShownStage.{ShownStage}
 use Rattle.shown_lines.specs.Shown.{shown_of}
@@ -10,6 +10,3 @@ has_shown stage number lines all = shown_of all ≡ stage.shown.items ++ shown_o
 
 abbrev pub is_stage : ShownStage → ℕ → Type 0
 is_stage stage number = Unit {0}
-
-abbrev pub held_of : ShownStage → ℕ
-held_of stage = length stage.shown.items

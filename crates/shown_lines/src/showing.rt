@@ -4,7 +4,7 @@ ghost use Rattle.frame_core.specs.Views.{Judges};
 ghost use Rattle.line_reader.specs.Reader.{IsReader, StandsFor};
 ghost use Rattle.line_reader.specs.Seen.{seen};
 ghost use Rattle.shown_lines.specs.ShownReport.{shown_task, most_shown};
-ghost use Rattle.shown_lines.specs.ShownStages.{has_shown, is_stage, held_of};
+ghost use Rattle.shown_lines.specs.ShownStages.{has_shown, is_stage};
 
 use crate::stage::ShownStage;
 use frame_core::{Reply, RunEnd, Status, Stop, StreamJob, finish};
@@ -13,12 +13,12 @@ use port_io::Sink;
 use std::alloc::{AllocError, Global};
 
 /// The most bytes that are read.
-const MOST_BYTES: usize = 2_147_483_647;
+const MOST_BYTES: usize = 1_099_511_627_776;
 
 /// The reply at the end of an answer.
 #[tactic(auto, using(crate::proofs::Replying::replying))]
 fn reply_of(kept: PieceReader<ShownStage>) -> Result<Reply, Stop>
-    requires { IsReader is_stage held_of (seen kept) }
+    requires { IsReader is_stage (seen kept) }
     ensures { (bytes : List ℕ) → StandsFor has_shown (seen kept) bytes → length bytes ≤ most_shown →
         Judges shown_task bytes result }
 {
@@ -40,7 +40,7 @@ impl StreamJob for ShowLines {
     ghost use Rattle.line_reader.specs.Reader.{IsReader, StandsFor};
     ghost use Rattle.line_reader.specs.Seen.{seen};
     ghost use Rattle.shown_lines.specs.ShownReport.{shown_task};
-    ghost use Rattle.shown_lines.specs.ShownStages.{has_shown, is_stage, held_of};
+    ghost use Rattle.shown_lines.specs.ShownStages.{has_shown, is_stage};
 
     ghost task = { λ _. shown_task };
 
@@ -50,9 +50,9 @@ impl StreamJob for ShowLines {
 
     ghost holds = { λ _ kept bytes. StandsFor has_shown (seen kept) bytes };
 
-    ghost whole = { λ _ kept. IsReader is_stage held_of (seen kept) };
+    ghost whole = { λ _ kept. IsReader is_stage (seen kept) };
 
-    ghost count = { λ _ kept. kept.fed };
+    ghost count = { λ _ kept. 0 };
 
     fn reads(&self) -> Option<usize> {
         Some(MOST_BYTES)

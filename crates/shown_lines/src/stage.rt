@@ -3,7 +3,7 @@ ghost use Rattle.std.specs.Prelude.{◌≡◌, ◌++◌, IfOk, OnOk};
 ghost use Rattle.text_core.specs.Lines.{line_bytes};
 ghost use Rattle.line_reader.specs.TextLines.{line_of};
 ghost use Rattle.shown_lines.specs.Shown.{shown_text};
-ghost use Rattle.shown_lines.specs.ShownStages.{has_shown, is_stage, held_of};
+ghost use Rattle.shown_lines.specs.ShownStages.{has_shown, is_stage};
 
 use crate::lines::is_shown;
 use line_reader::{LineStage, TextLine};
@@ -31,15 +31,13 @@ pub struct ShownStage {
 impl LineStage for ShownStage {
     ghost use Rattle.std.specs.Prelude.{◌≡◌, IfOk};
     ghost use Rattle.shown_lines.specs.Shown.{shown_text};
-    ghost use Rattle.shown_lines.specs.ShownStages.{has_shown, is_stage, held_of};
+    ghost use Rattle.shown_lines.specs.ShownStages.{has_shown, is_stage};
 
     type Fault = AllocError;
 
     type End = Vec<u8>;
 
     ghost whole = { λ stage number. is_stage stage number };
-
-    ghost held = { λ stage. held_of stage };
 
     ghost stands = { λ stage number lines all. has_shown stage number lines all };
 

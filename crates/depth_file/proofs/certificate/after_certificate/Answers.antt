@@ -19,7 +19,6 @@ returns-in_default c =
     let claim : WasRead c.args.reader t = record { exact = c.in-Ok.ensures.exact; claim = c.in-Ok.ensures.claim } in
     record {
       keeps = tt;
-      fed = tt;
       following = tt;
       answer = λ number ls answer is. not_least c.args.reader t number ls answer claim
           (least_none_by t.header.method t.verdict t.chain c.in_default.not-Minimum) is;
@@ -31,7 +30,6 @@ returns-in_default-method c =
     let claim : WasRead c.args.reader t = record { exact = c.in-Ok.ensures.exact; claim = c.in-Ok.ensures.claim } in
     record {
       keeps = tt;
-      fed = tt;
       following = tt;
       answer = λ number ls answer is. not_least c.args.reader t number ls answer claim
           (least_other t.header.method t.verdict t.chain c.in_default-method.not-Fence) is;

@@ -1,9 +1,8 @@
 -- The loop takes line after line, until nothing is left.
-use Rattle.std.proofs.Common.{◌≡◌, [], ◌++◌, arith, rules}
+use Rattle.std.proofs.Common.{◌≡◌, [], ◌++◌, rules}
 use Rattle.std.proofs.lemmas.Grind.{common_steps}
 use Rattle.text_core.specs.Lines.{lines_of}
 use Rattle.line_reader.specs.Seen.{seen}
-use Rattle.line_reader.specs.SplittingLaws.{length_left, left_none}
 use Rattle.line_reader.proofs.Splitting.{before_more, before_refused, before_all, has_err}
 use Rattle.line_reader.proofs.reader.PieceReader.feed.Goals as goal
 
@@ -25,21 +24,9 @@ loop-text-preserved g c = record {
         ended = c.in-Some.ended;
       })
       c.in-Some.ensures.some c.in_ok-reader.ensures.read (c.loop-text.invariant.before text stands);
-  fed =
-      let all = c.loop-text.invariant.fed in
-      let more = c.in_ok-reader.ensures.fed in
-      let long = length_left c.loop-text.left.now c.in-Some.rest.now (record { text = c.in-Some.text.now; ended = c.in-Some.ended }) c.in-Some.ensures.some in
-      omega (arith, all, more, long);
 }
 
 pub returns-clause-read : goal.returns-clause-read
 returns-clause-read g c = λ text stands.
     let none : lines_of c.loop-text.left.now ≡ [] = search (rules, common_steps) in
     before_all g.S.LineStage.stands (seen c.loop-text.reader) c.loop-text.left.now (text ++ c.args.piece.now) none (c.loop-text.invariant.before text stands)
-
-pub returns-clause-fed : goal.returns-clause-fed
-returns-clause-fed g c =
-    let none : lines_of c.loop-text.left.now ≡ [] = search (rules, common_steps) in
-    let all = c.loop-text.invariant.fed in
-    let nothing = left_none c.loop-text.left.now none in
-    omega (arith, all, nothing)

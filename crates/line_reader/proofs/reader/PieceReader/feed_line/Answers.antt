@@ -1,5 +1,5 @@
 -- A text without an LF joins what was already fed of the line.
-use Rattle.std.proofs.Common.{◌≡◌, ◌+◌, Bool, ◌++◌, length, sym, subst, rules}
+use Rattle.std.proofs.Common.{◌≡◌, Bool, ◌++◌, sym, subst, rules}
 use Rattle.std.proofs.lemmas.Grind.{common_steps}
 use Rattle.text_core.specs.Lines.{line_bytes}
 use Rattle.line_reader.specs.Reader.{StandsFor}
@@ -14,8 +14,7 @@ returns-clause-read g c = λ before free stands.
       stage = c.args.self.stage;
       number = c.args.self.number;
       unfinished = c.extend_from_slice.new.self.items;
-      fed = c.args.self.fed + length c.args.text.now;
     }) (before ++
     line_bytes (record { text = c.args.text.now; ended = b })))
     (sym c.if-ended.false)
-    (stands_part g.S.LineStage.stands c.args.self.stage c.args.self.number c.args.self.fed c.args.self.unfinished.items c.extend_from_slice.new.self.items before c.args.text.now free same stands)
+    (stands_part g.S.LineStage.stands c.args.self.stage c.args.self.number c.args.self.unfinished.items c.extend_from_slice.new.self.items before c.args.text.now free same stands)
