@@ -7,6 +7,7 @@ use Rattle.op_basis.specs.Basis.{members}
 use Rattle.net_theory.specs.Circuit.{Circuit, IsProper}
 use Rattle.net_theory.specs.Dangling.{cleanup}
 use Rattle.net_document.specs.Format.{Format, IsCircuitOfText, IsFormat}
+use Rattle.net_document.specs.FormatLaws.{own_limit}
 use Rattle.bench_core.specs.Bench.{bench_format}
 use Rattle.bench_laws.specs.Spelled.{CanWriteBench}
 use Rattle.aiger_forms.specs.Forms.{aiger_forms}
@@ -41,7 +42,7 @@ bench_can only s bytes c b found format fits of_text is has =
 -- what AIGER improves is the circuit that was read
 pub aiger_can : (bytes : List ℕ) (c : Circuit) → IsFormat aiger_forms CanWriteAiger →
     IsCircuitOfText aiger_forms bytes c → CanIfRoom CanWriteAiger c
-aiger_can bytes c format is = λ room. format.kept bytes c is room
+aiger_can bytes c format is = λ room. format.kept aiger_forms.most bytes c (own_limit aiger_forms bytes c is) room
 
 -- ---- no text
 

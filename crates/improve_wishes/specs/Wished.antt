@@ -92,10 +92,10 @@ pub record IsTextBy (f : Format) (Can : Circuit → Type 0) (s : ImproveSettings
 -- ---- texts
 
 -- The bytes list a well-formed document within the limit of gates, whose net was improved, or with `--only yes` that of
--- an equivalent circuit over the basis. The text is that of a proper circuit with the document's model, which is equivalent to it, has no more
--- gates than what was improved, and has what is wished of levels. The text lists a well-formed document again, which is
--- equivalent to the first one, and over the basis if that is wished. The report has the gates and the levels of both
--- nets.
+-- an equivalent circuit over the basis. The text is that of a proper circuit with the document's model, which is
+-- equivalent to it, has no more gates than what was improved, and has what is wished of levels. The text lists a
+-- well-formed document again, which is equivalent to the first one, and over the basis if that is wished. The report has
+-- the gates and the levels of both nets.
 pub record IsWished (f : Format) (s : ImproveSettings) (w : Wishes) (bytes text report : List ℕ) : Type 0 where
   pub read : Listed
   pub said : f.listed bytes ≡ Ok read
@@ -138,7 +138,8 @@ pub record IsCannotExpress (f : Format) (s : ImproveSettings) (w : Wishes) (byte
   pub of_text : IsCircuitOfText f bytes circuit
   pub gate : IsInexpressibleBy (members s.basis) (left_of circuit) name
 
--- The bytes list a well-formed document. Over the basis, what isn't dangling in its net could have too many gates.
+-- The bytes list a well-formed document. Not all gates of its net that aren't dangling have operators of the basis, and
+-- over it, what takes their place could have too many gates.
 pub record IsTooLarge (f : Format) (s : ImproveSettings) (w : Wishes) (bytes : List ℕ) : Type 0 where
   pub wish : w.only ≡ true
   pub circuit : Circuit

@@ -28,14 +28,6 @@ kept_known known f w is = ⊎_elim (λ here. extended-same known f w true here) 
 pub known_cases : (known : ℕ → Bool) (f w : ℕ) → extended known f true w ≡ true → (w ≡ f) ⊎ (known w ≡ true)
 known_cases known f w is = ⊎_elim (λ here. inl here) (λ other. inr (sym (extended-other known f w true other) ∙ is)) (cases_eq w f)
 
--- one more step at the front
-pub makes_next : (basis : Basis) (known : ℕ → Bool) (js rest : List Join) (j : Join) (w : ℕ) → js ≡ j ∷ rest →
-    may_join basis known j ≡ true → makes basis (extended known (function_of j) true) rest w ≡ makes basis known js w
-unfolding makes
-makes_next basis known js rest j w split may =
-    ap (λ (b : Bool). b && makes basis (extended known (function_of j) true) rest w) (sym may)
-    ∙ ap (λ (xs : List Join). makes basis known xs w) (sym split)
-
 -- one more step at the end
 makes_more : (basis : Basis) (known : ℕ → Bool) (js : List Join) (j : Join) (w : ℕ) → basis j.op ≡ true →
     makes basis known js j.first ≡ true → makes basis known js j.second ≡ true →
@@ -72,7 +64,7 @@ pub old_join : (basis : Basis) (known : ℕ → Bool) (j : Join) → basis j.op 
 unfolding has_joined
 old_join basis known j is e = by_cases (basis j.op) (known j.first) (known j.second) (known (function_of j)) is e
 
-function_low : (j : Join) → function_of j < 16
+pub function_low : (j : Join) → function_of j < 16
 unfolding joined
 function_low j = operator_low (λ a b. apply j.op (apply j.first a b) (apply j.second a b))
 

@@ -17,8 +17,8 @@ use Rattle.net_basis.specs.Joins.{operands, makes}
 use Rattle.net_basis.specs.LocalWord.{local_word}
 use Rattle.net_basis.specs.OverBasis.{IsInexpressible, HasChainOf, AreLengths, MayHaveTooMany, most_for_one, most_over}
 use Rattle.net_basis.specs.Placing.{IsRecipe, AreRecipes, IsConverted, AreLeft}
-use Rattle.net_basis.specs.Conversion.{steps_of, lengths_by, MayEndAt, IsGateAnswer, IsPassed}
-use Rattle.net_basis.proofs.Conversions.{most_split, most_none}
+use Rattle.net_basis.specs.Conversion.{are_in, steps_of, lengths_by, MayEndAt, IsGateAnswer, IsPassed}
+use Rattle.net_basis.proofs.Conversions.{all_in, most_split, most_none}
 
 pub differ : {A : Type 0} (b : Bool) → b ≡ true → b ≡ false → A
 differ b on off = absurd cc
@@ -61,7 +61,7 @@ some_steps basis (j ∷ js) word made isnt = omega arith
 steps_long : (basis : Basis) (word : ℕ) (r : Recipe) (made : Bool) → IsRecipe basis word r → operands word ≡ false →
     r.is_made ≡ made → 1 ≤ steps_of (Some r)
 steps_long basis word r true is isnt made =
-    omega (arith, steps_made r made, some_steps basis r.joins.items word (is.made made) isnt)
+    omega (arith, steps_made r made, some_steps basis r.joins.items word (is.chain made).made isnt)
 steps_long basis word r false is isnt none = omega (arith, steps_unmade r none)
 
 steps_few : (basis : Basis) (word : ℕ) (r : Recipe) (made : Bool) → IsRecipe basis word r → r.is_made ≡ made →
@@ -103,10 +103,33 @@ chain_by : (basis : Basis) (rs : List Recipe) (word : ℕ) (r : Recipe) (made : 
     HasChainOf basis word (lengths_by basis rs word) ⊎ IsInexpressible basis word
 chain_by basis rs word r true are isnt other at made = inl (record {
   joins = r.joins.items;
-  made = (are.each word r at).made made;
+  made = ((are.each word r at).chain made).made;
   size = sym (steps_made r made) ∙ sym (ap steps_of at) ∙ sym (length_other basis rs word isnt other);
 })
 chain_by basis rs word r false are isnt other at none = inr ((are.each word r at).none none)
+
+-- no chain is shorter than that of the recipe
+least_by : (basis : Basis) (rs : List Recipe) (word : ℕ) (joins : List Join) (r : Recipe) (made : Bool) → AreRecipes basis rs →
+    operands word ≡ false → basis word ≡ false → slice_get rs word ≡ Some r → r.is_made ≡ made →
+    makes basis operands joins word ≡ true → lengths_by basis rs word ≤ length joins
+least_by basis rs word joins r true are isnt other at made is = omega (
+  arith,
+  length_other basis rs word isnt other,
+  ap steps_of at,
+  steps_made r made,
+  ((are.each word r at).chain made).least joins is,
+)
+least_by basis rs word joins r false are isnt other at none is = absurd ((are.each word r at).never none joins is)
+
+least_at : (basis : Basis) (rs : List Recipe) (word : ℕ) (joins : List Join) (free member : Bool) → AreRecipes basis rs →
+    word < 16 → operands word ≡ free → basis word ≡ member → makes basis operands joins word ≡ true →
+    lengths_by basis rs word ≤ length joins
+least_at basis rs word joins true member are low is e made = omega (arith, length_free basis rs word is)
+least_at basis rs word joins false true are low isnt is made =
+    omega (arith, length_member basis rs word isnt is, some_steps basis joins word made isnt)
+least_at basis rs word joins false false are low isnt other made =
+    let r = get_at rs word (omega (arith, low, are.count)) in
+    least_by basis rs word joins r.0 r.0.is_made are isnt other r.1 refl made
 
 pub are_lengths : (basis : Basis) (rs : List Recipe) → AreRecipes basis rs → AreLengths basis (lengths_by basis rs)
 are_lengths basis rs are = record {
@@ -115,6 +138,7 @@ are_lengths basis rs are = record {
   chain = λ word low isnt other.
       let r = get_at rs word (omega (arith, low, are.count)) in
       chain_by basis rs word r.0 r.0.is_made are isnt other r.1 refl;
+  least = λ word joins low made. least_at basis rs word joins (operands word) (basis word) are low refl refl made;
   few = λ word. lengths_few basis rs word (operands word) (basis word) are refl refl;
 }
 
@@ -155,14 +179,15 @@ more_on before after less more (Ok e) low few = omega (arith, low, few)
 more_on before after less more (Err e) low few = tt
 
 pub too_many_at : (basis : Basis) (rs : List Recipe) (n : Net) (sources count word : ℕ) (g : Gate)
-    (left rest : List Gate) → AreRecipes basis rs → left ≡ g ∷ rest → sources ≡ n.sources → word ≡ local_word g →
+    (left rest : List Gate) → AreRecipes basis rs → are_in basis n.gates ≡ false → left ≡ g ∷ rest → sources ≡ n.sources → word ≡ local_word g →
     count + most_over (lengths_by basis rs) left ≤ most_over (lengths_by basis rs) n.gates →
     MayEndAt sources count (lengths_by basis rs word) → MayHaveTooMany basis n
-too_many_at basis rs n sources count word g left rest are split same_sources same fewer ends =
+too_many_at basis rs n sources count word g left rest are other split same_sources same fewer ends =
     let lengths : ℕ → ℕ = lengths_by basis rs in
     let here : lengths word ≡ lengths (local_word g) = ap lengths same in
     let parts : most_over lengths left ≡ lengths (local_word g) + most_over lengths rest = most_split lengths left rest g split in
     record {
+      other = λ all. differ (are_in basis n.gates) (all_in basis n.gates all) other;
       lengths = lengths;
       are_lengths = are_lengths basis rs are;
       many = ⊎_elim

@@ -2,6 +2,7 @@ pub mod Sets
 pub mod Every
 pub mod Counts
 pub mod Closures
+pub mod ShortestChains
 pub mod Recipes
 pub mod Placements
 pub mod Locals

@@ -1,5 +1,6 @@
 pub use Rattle.net_theory.specs.Operator
 pub mod Joins
+pub mod LeastChains
 pub mod LocalWord
 pub mod DocumentOver
 pub mod OverBasis

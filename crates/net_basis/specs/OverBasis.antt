@@ -70,12 +70,14 @@ pub record HasChainOf (basis : Basis) (word k : ℕ) : Type 0 where
   pub size : length joins ≡ k
 
 -- How many gates take the place of one, by its function: a constant and a copy need none, an operator of the basis is
--- one, and for any other function there is a chain of so many.
+-- one, and for any other function there is a chain of so many. No chain has fewer.
 pub record AreLengths (basis : Basis) (lengths : ℕ → ℕ) : Type 0 where
   pub free : (word : ℕ) → operands word ≡ true → lengths word ≡ 0
   pub member : (word : ℕ) → operands word ≡ false → basis word ≡ true → lengths word ≡ 1
   pub chain : (word : ℕ) → word < 16 → operands word ≡ false → basis word ≡ false →
       HasChainOf basis word (lengths word) ⊎ IsInexpressible basis word
+  pub least : (word : ℕ) (joins : List Join) → word < 16 → makes basis operands joins word ≡ true →
+      lengths word ≤ length joins
   pub few : (word : ℕ) → lengths word ≤ most_for_one
 
 -- as many gates as take the place of these, each by its function of its different signals
@@ -107,8 +109,10 @@ pub record IsCircuitOver (basis : Basis) (c k : Circuit) : Type 0 where
   pub equivalent : AreEquivalentCircuits c k
   pub over : IsNetOver basis c.net k.net
 
--- With the gates that take the place of those of n, the net could have more than a netlist may have, or 2^31 nodes.
+-- Not all gates of n have operators of the basis, and with the gates that take the place of those of n, the net could
+-- have more than a netlist may have, or 2^31 nodes.
 pub record MayHaveTooMany (basis : Basis) (n : Net) : Type 0 where
+  pub other : HaveOperatorsIn basis n.gates → ⊥
   pub lengths : ℕ → ℕ
   pub are_lengths : AreLengths basis lengths
   pub many : most_gates < most_over lengths n.gates ⊎ 2 ^ 31 ≤ n.sources + 1 + most_over lengths n.gates

@@ -12,6 +12,7 @@ use Rattle.net_theory.specs.MovingLaws.{Moves}
 use Rattle.net_basis.specs.declared.join.Join.{Join}
 use Rattle.net_basis.specs.declared.recipe.Recipe.{Recipe}
 use Rattle.net_basis.specs.Joins.{function_of, operands, makes, is_closed}
+use Rattle.net_basis.specs.LeastChains.{IsLeastChain}
 use Rattle.net_basis.specs.OverBasis.{HaveOperatorsIn, IsInexpressible, most_for_one}
 
 -- ---- recipes
@@ -27,11 +28,12 @@ pub record IsClosure (basis : Basis) (known : ℕ → Bool) (joins : List Join) 
   pub made : (w : ℕ) → known w ≡ true → makes basis operands joins w ≡ true
   pub few : length joins ≤ most_for_one
 
--- A recipe is made of few steps that make the operator, or else the basis has none.
+-- A recipe is a least chain for the operator, of few steps, or else the basis has none.
 pub record IsRecipe (basis : Basis) (op : ℕ) (r : Recipe) : Type 0 where
-  pub made : r.is_made ≡ true → makes basis operands r.joins.items op ≡ true
+  pub chain : r.is_made ≡ true → IsLeastChain basis op r.joins.items
   pub few : length r.joins.items ≤ most_for_one
   pub none : r.is_made ≡ false → IsInexpressible basis op
+  pub never : r.is_made ≡ false → (joins : List Join) → makes basis operands joins op ≡ true → ⊥
 
 -- the recipes of the sixteen operators
 pub record AreRecipes (basis : Basis) (rs : List Recipe) : Type 0 where

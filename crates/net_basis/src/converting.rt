@@ -66,6 +66,7 @@ fn pass(
     requires recipes { AreRecipes (members basis) recipes.now }
     requires start { nodes_of nodes.old ≡ sources_stay net.now.sources }
     requires count { length nodes.old ≡ end_of net.now }
+    requires other { are_in_of (members basis) net.now.gates ≡ false }
     ensures answer { IfOk result (IsPassAnswer (members basis) net.now (kept nodes.new)) }
     ensures nodes { length nodes.new ≡ length nodes.old }
 {

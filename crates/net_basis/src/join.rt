@@ -3,7 +3,7 @@ ghost use Rattle.std.specs.Prelude.{◌≡◌, ◌≤◌, ◌<◌, true};
 ghost use Rattle.chain_theory.specs.Value.{extended};
 ghost use Rattle.op_basis.specs.Basis.{members};
 ghost use Rattle.net_basis.specs.Joins.{function_of as function_of_join, operands as operands_of};
-ghost use Rattle.net_basis.specs.Joins.{may_join as may_join_of, makes as makes_of};
+ghost use Rattle.net_basis.specs.Joins.{may_join as may_join_of};
 
 use op_basis::{Basis, Op};
 
@@ -65,21 +65,4 @@ pub fn may_join(basis: Basis, known: Basis, join: &Join) -> bool
     ensures { result ≡ may_join_of (members basis) (members known) join.now }
 {
     basis.contains(join.op) && known.contains(join.first) && known.contains(join.second)
-}
-
-/// Whether the steps are over the basis, read only what is known by then, and make the function.
-#[tactic(auto, unfolding(crate::specs::Joins::makes))]
-pub fn makes(basis: Basis, known: Basis, joins: &[Join], function: Op) -> bool
-    ensures { result ≡ makes_of (members basis) (members known) joins.now function }
-{
-    let Some((join, rest)) = joins.split_first() else {
-        return known.contains(function);
-    };
-    may_join(basis, known, join)
-        && makes(
-            basis,
-            with_function(known, function_of(join)),
-            rest,
-            function,
-        )
 }

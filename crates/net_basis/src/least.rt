@@ -1,31 +1,29 @@
-//! A least chain for an operator. The sets of functions that some steps make are listed in the order of their numbers
-//! of steps, each set once, so that the first one with the operator has a least chain. That the chain is least isn't
-//! proved; whether it is a chain for the operator, the caller tests.
-ghost use Rattle.std.specs.Prelude.{◌≤◌, IfOk, vec_len};
+//! A least chain for an operator. Chains of no step, of one, of two, and so on are looked for in turn, until there is one:
+//! of the steps that make one function, the first stands for all.
+ghost use Rattle.std.specs.Prelude.{◌≡◌, ◌<◌, ◌∷◌, true, IfOk, IfSome, IfNone};
+ghost use Rattle.op_basis.specs.Basis.{members};
+ghost use Rattle.net_basis.specs.Joins.{function_of as function_of_join, operands as operands_of};
+ghost use Rattle.net_basis.specs.Joins.{may_join as may_join_of, makes};
+ghost use Rattle.net_basis.specs.LeastChains.{join_at, is_untried as is_untried_of, IsChainWithin, IsOutOfReach};
+ghost use Rattle.net_basis.specs.LeastChains.{IsLeastChain};
 
-use crate::join::{Join, function_of, operands, with_function};
+use crate::join::{Join, function_of, may_join, operands, with_function};
 use op_basis::{Basis, Op};
 use std::alloc::{AllocError, Global};
 
-/// More steps than a least chain for an operator has over any basis.
-const MOST_STEPS: u32 = 8;
+/// The number of all steps: sixteen operators, each of two of the sixteen functions.
+const JOINS: u16 = 4096;
 
-/// The number of all sets of functions.
-const SETS: usize = 65536;
-
-/// A set of functions, the last step that makes them, and the index of the set before it.
-#[derive(Clone, Copy)]
-struct Reached {
-    known: Basis,
-    join: Join,
-    before: usize,
-}
-
-/// The sets in the order of their numbers of steps, and by its bits whether a set is listed.
-#[derive(Drop)]
-struct Listing {
-    all: Vec<Reached>,
-    is_listed: Vec<bool>,
+/// The step of a number.
+fn join_of(code: u16) -> Join
+    requires { code < 4096 }
+    ensures { result ≡ join_at code }
+{
+    Join {
+        op: Op::new((code / 256) as u8),
+        first: Op::new((code / 16 % 16) as u8),
+        second: Op::new((code % 16) as u8),
+    }
 }
 
 /// Whether the operator's value depends on its first operand.
@@ -57,127 +55,99 @@ fn needed(op: Op, first: Op, second: Op) -> Join {
     Join { op, first, second }
 }
 
-/// Lists the set that a step makes of the set `before`, unless it is listed.
-fn list_one(
-    listing: &mut Listing,
-    known: Basis,
-    join: &Join,
-    before: usize,
-) -> Result<(), AllocError> {
-    let known = with_function(known, function_of(join));
-    let place = usize::from(known.get());
-    if place >= listing.is_listed.len() || listing.is_listed[place] {
-        return Ok(());
-    }
-    listing.is_listed[place] = true;
-    listing.all.push(Reached {
-        known,
-        join: *join,
-        before,
-    })?;
-    Ok(())
-}
-
-/// Lists what steps with this operator and first operand make of the set `before`.
-fn list_seconds(
-    listing: &mut Listing,
-    known: Basis,
-    op: Op,
-    first: Op,
-    before: usize,
-) -> Result<(), AllocError> {
-    for word in 0..16u8 {
-        let second = Op::new(word);
-        if known.contains(second) {
-            let join = needed(op, first, second);
-            list_one(listing, known, &join, before)?;
-        }
-    }
-    Ok(())
-}
-
-/// Lists what steps with this operator make of the set `before`.
-fn list_firsts(
-    listing: &mut Listing,
-    known: Basis,
-    op: Op,
-    before: usize,
-) -> Result<(), AllocError> {
-    for word in 0..16u8 {
-        let first = Op::new(word);
-        if known.contains(first) {
-            list_seconds(listing, known, op, first, before)?;
-        }
-    }
-    Ok(())
-}
-
-/// Lists what one more step makes of the set `before`.
-fn list_next(
-    listing: &mut Listing,
-    basis: Basis,
-    known: Basis,
-    before: usize,
-) -> Result<(), AllocError> {
-    for word in 0..16u8 {
-        let op = Op::new(word);
-        if basis.contains(op) {
-            list_firsts(listing, known, op, before)?;
-        }
-    }
-    Ok(())
-}
-
-/// The listing with the set of what needs no gate alone.
-fn start(alloc: Global) -> Result<Listing, AllocError> {
-    let known = operands();
-    let operand = Op::new(3);
-    let join = Join {
-        op: operand,
-        first: operand,
-        second: operand,
-    };
-    let mut all = Vec::new(alloc);
-    all.push(Reached {
-        known,
-        join,
-        before: 0,
-    })?;
-    let is_listed = vec![in alloc; false; SETS]?;
-    Ok(Listing { all, is_listed })
-}
-
-/// The steps that make the set of an index, in order.
-fn steps_to(alloc: Global, all: &[Reached], index: usize) -> Result<Vec<Join>, AllocError>
-    ensures { IfOk result (λ joins. vec_len joins ≤ 8) }
+/// Whether a step may take the place of another: it may be one, and makes the same function.
+fn is_as_good(basis: Basis, known: Basis, lean: &Join, join: &Join) -> bool
+    ensures may { result ≡ true → may_join_of (members basis) (members known) lean.now ≡ true }
+    ensures same { result ≡ true → function_of_join lean.now ≡ function_of_join join.now }
 {
-    let mut joins = Vec::new(alloc);
-    let mut at = index;
-    for _step in 0..MOST_STEPS {
-        if at == 0 || at >= all.len() {
-            break;
-        }
-        joins.push(all[at].join)?;
-        at = all[at].before;
+    may_join(basis, known, lean) && function_of(lean).get() == function_of(join).get()
+}
+
+/// The step, or one that makes the same function and reads no gate that isn't needed.
+fn leaner(basis: Basis, known: Basis, join: &Join) -> Join
+    requires { may_join_of (members basis) (members known) join.now ≡ true }
+    ensures may { may_join_of (members basis) (members known) result ≡ true }
+    ensures same { function_of_join result ≡ function_of_join join.now }
+{
+    let lean = needed(join.op, join.first, join.second);
+    if is_as_good(basis, known, &lean, join) {
+        return lean;
     }
-    joins.reverse();
+    *join
+}
+
+/// Whether the step may be one, and makes a function that wasn't tried.
+fn is_untried(basis: Basis, known: Basis, tried: Basis, join: &Join) -> bool
+    ensures { result ≡ is_untried_of (members basis) (members known) (members tried) join.now }
+{
+    may_join(basis, known, join) && !tried.contains(function_of(join))
+}
+
+/// The steps after a first one.
+fn with_first(join: Join, rest: Vec<Join>) -> Result<Vec<Join>, AllocError>
+    ensures { IfOk result (λ joins. joins.items ≡ join ∷ rest.items) }
+{
+    let mut joins = rest;
+    joins.insert(0, join)?;
     Ok(joins)
 }
 
-/// The steps of a least chain for a function that the basis makes. Nothing is promised but that they are few.
-pub fn least_joins(alloc: Global, basis: Basis, function: Op) -> Result<Vec<Join>, AllocError>
-    ensures { IfOk result (λ joins. vec_len joins ≤ 8) }
+/// At most `most` steps that make the function after what is known, if there are any. Each function that one step makes
+/// is tried in turn.
+fn chain_within(
+    alloc: Global,
+    basis: Basis,
+    known: Basis,
+    function: Op,
+    most: usize,
+) -> Result<Option<Vec<Join>>, AllocError>
+    ensures some { IfOk result (λ found. IfSome found (λ joins.
+        IsChainWithin (members basis) (members known) function most joins.items)) }
+    ensures none { IfOk result (λ found. IfNone found
+        (IsOutOfReach (members basis) (members known) function most)) }
 {
-    let mut listing = start(alloc)?;
-    for index in 0..SETS {
-        if index >= listing.all.len() {
-            break;
-        }
-        let known = listing.all[index].known;
-        if known.contains(function) {
-            return steps_to(alloc, &listing.all, index);
-        }
-        list_next(&mut listing, basis, known, index)?;
+    if known.contains(function) {
+        return Ok(Some(Vec::new(alloc)));
     }
-    Ok(Vec::new(alloc))
+    if most == 0 {
+        return Ok(None);
+    }
+    // for the prover: no member of either set is above 15
+    let _members = basis.get();
+    let _known = known.get();
+    let mut tried = known;
+    for code in 0..JOINS {
+        let join = join_of(code);
+        if !is_untried(basis, known, tried, &join) {
+            continue;
+        }
+        let made = function_of(&join);
+        let next = with_function(known, made);
+        if let Some(rest) = chain_within(alloc, basis, next, function, most - 1)? {
+            return Ok(Some(with_first(leaner(basis, known, &join), rest)?));
+        }
+        tried = with_function(tried, made);
+    }
+    Ok(None)
+}
+
+/// A least chain for a function, of which the chain `enough` is one.
+pub fn least_joins(
+    alloc: Global,
+    basis: Basis,
+    enough: &[Join],
+    function: Op,
+) -> Result<Vec<Join>, AllocError>
+    requires { makes (members basis) operands_of enough.now function ≡ true }
+    ensures { IfOk result (λ joins. IsLeastChain (members basis) function joins.items) }
+{
+    let known = operands();
+    for steps in 0..enough.len() {
+        if let Some(joins) = chain_within(alloc, basis, known, function, steps)? {
+            return Ok(joins);
+        }
+    }
+    let mut joins = Vec::new(alloc);
+    joins.extend_from_slice(enough)?;
+    Ok(joins)
 }

@@ -2,13 +2,13 @@
 //!
 //! A net whose gates have operators of the basis stays as it is. Otherwise each gate of another operator is replaced by
 //! a least chain of gates over the basis for its function of its different signals (`local`). The sixteen functions have
-//! at most one chain each, which is found once (`least`) and tested by the functions of its steps (`join`). Where there
-//! is none, the closure of both operands and the constants under the basis (`closure`) is a set of functions without
-//! it, so the basis can't express it. A constant is a signal and needs no gate, nor does a copy.
+//! at most one chain each, which is found once (`least`). Where there is none, the closure of both operands and the
+//! constants under the basis (`closure`) is a set of functions without it, so the basis can't express it. A constant is a
+//! signal and needs no gate, nor does a copy.
 //!
 //! The main theorem is the contract of `over_basis`: the circuit has the same names and the same behaviour, and every
-//! gate has an operator of the basis. That the chains are least isn't proved. `specs/DocumentOver` says when a document
-//! is over a basis.
+//! gate has an operator of the basis, with no more gates than the least chains have (`AreLengths`). `specs/DocumentOver`
+//! says when a document is over a basis.
 //!
 //! ```text
 //! match over_basis(alloc, circuit, basis)? {

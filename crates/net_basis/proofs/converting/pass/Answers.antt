@@ -117,7 +117,7 @@ returns-in-TooMany-clause-answer c =
     c.in_ok-sig.ensures.answer in
     too_many_at (members c.args.basis) c.args.recipes.now c.args.net.now c.sources-sources.result
     (length c.loop-gate.gates.items) c.local_word-word.result c.in-Some.gate.now c.loop-gate.left.now
-    c.in-Some.rest.now c.requires.recipes c.in-Some.ensures.cases.0 c.sources-sources.ensures.sources
+    c.in-Some.rest.now c.requires.recipes c.requires.other c.in-Some.ensures.cases.0 c.sources-sources.ensures.sources
     c.local_word-word.ensures
     (omega (arith, c.loop-gate.invariant.fewer, c.loop-gate.gates.ok.0)) ends
 

@@ -16,8 +16,8 @@ returns-then-not-recipe-clause-answer c =
 
 pub replace-requires-clause-made : goal.replace-requires-clause-made
 replace-requires-clause-made c =
-    (c.requires.recipes.each c.chosen-function.result c.recipe_of-recipe.result.now c.recipe_of-recipe.ensures).made
-    c.if-not-recipe.false
+    ((c.requires.recipes.each c.chosen-function.result c.recipe_of-recipe.result.now c.recipe_of-recipe.ensures).chain
+    c.if-not-recipe.false).made
 
 pub replace-requires-clause-steps : goal.replace-requires-clause-steps
 replace-requires-clause-steps c =
