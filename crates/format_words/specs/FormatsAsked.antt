@@ -152,7 +152,8 @@ plain_on None words = words
 plain_on (Some line) words = plain_in (asked_in line.words line.operands) words line
 
 -- The words that mean the same to a program that knows none of these formats, and compares as is asked: without
--- `--format` and `--match names`; for `improve` of AIGER with `--format blif`, and with the basis `u2` if none is named. Other words stay as they are.
+-- `--format` and `--match names`; for `improve` of AIGER with `--format blif`, and with the basis `u2` if none is
+-- named. Other words stay as they are.
 -- Example: of `improve --format aiger --cap 4 a` they are `improve --cap 4 --format blif --basis u2 -- a`.
 abbrev pub plain_words : List (List ℕ) → List (List ℕ)
 plain_words words = plain_on (file_line words) words
