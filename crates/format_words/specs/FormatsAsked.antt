@@ -67,8 +67,10 @@ by_names options = if is_names (word_after (codes "--match") options) then not (
 
 -- A comparison of two files is one by names, if the words ask for that.
 abbrev pub matched : Bool → FormatsAsked → FormatsAsked
-matched true (Compare pair) = Match pair
-matched by asked = asked
+matched by (Compare pair) = if by then Match pair else Compare pair
+matched by Own = Own
+matched by ImproveAiger = ImproveAiger
+matched by (Match pair) = Match pair
 
 abbrev pub files_asked : Option (List ℕ) → List (List ℕ) → FormatsAsked
 files_asked named [] = Own
