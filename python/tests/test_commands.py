@@ -50,7 +50,7 @@ ADDER = EXAMPLES / 'improve' / 'adder.blif'
 
 
 # The options that only the program with files has.
-FRONT_ALONE = ('--size', '--part', '--most-bytes', '--at', '--only', '--levels', '--covers')
+FRONT_ALONE = ('--size', '--part', '--most-bytes', '--at', '--match', '--only', '--levels', '--covers')
 
 
 class Synthesis(unittest.TestCase):

@@ -1,11 +1,10 @@
 -- What was found for two circuits holds of the texts that they were read from.
 use Rattle.std.specs.Prelude.{◌≡◌, ℕ, Bool, true, false, List, ◌++◌, length, map, Result, Ok, Err, IsErrAnd, IfErr}
-use Rattle.std.proofs.Common.{sym, ap, subst, ◌∙◌, refl}
+use Rattle.std.proofs.Common.{sym, ap, subst, ◌∙◌}
 use Rattle.net_theory.specs.Document.{Name, Latch, Document, latches_of, latch_output, source_names}
 use Rattle.net_theory.specs.Net.{bit_of, sink_values}
 use Rattle.net_theory.specs.Circuit.{Circuit, IsProper, Describes, sources_of}
-use Rattle.net_document.specs.Format.{Format, IsNetlist, IsCircuitOfText}
-use Rattle.net_document.specs.FormatLaws.{text_within, text_netlist}
+use Rattle.net_document.specs.Format.{IsCircuitOfText}
 use Rattle.format_names.specs.declared.formats.FormatPair.{FormatPair}
 use Rattle.equiv_theory.specs.Counterexample.{HaveSameInterface}
 use Rattle.equiv_run.specs.declared.answer.CompareError.{CompareError}
@@ -13,32 +12,14 @@ use Rattle.equiv_run.specs.declared.answer.CompareError.TheVariants.{NoSecond, F
 use Rattle.equiv_run.specs.CircuitAnswers.{IsOther}
 use Rattle.equiv_run.specs.PairLaws.{shared, have_same}
 use Rattle.equiv_run.specs.NameBits.{has_assignment, values_are}
-use Rattle.equiv_formats.specs.Comparison.{first_format, second_format, AreNetlists, share_sections, ShareSections, IsFormatsRefused, IsFirstRefused, IsSecondRefused, AreSectionsRefused}
+use Rattle.equiv_formats.specs.Comparison.{first_format, second_format, share_sections, ShareSections, IsFormatsRefused, IsFirstRefused, IsSecondRefused, AreSectionsRefused}
+use Rattle.equiv_formats.specs.ComparisonLaws.{are_netlists, netlist_of}
 use Rattle.cmd_at.specs.declared.circuits.Valued.{Valued}
 use Rattle.cmd_at.specs.declared.circuits.Valued.TheVariants.{Text, Miscounted}
 use Rattle.cmd_at.specs.AtText.{values_text}
 use Rattle.cmd_at.specs.AtReport.{IsCircuitText, AreMiscounted, IsCircuitValued, HasValues, IsValuesText, IsOtherCount, IsValued}
 
 -- ---- documents
-
-are_netlists : (p : FormatPair) (first second : List ℕ) (c k : Circuit) → (of_c : IsCircuitOfText (first_format p) first c) →
-    (of_k : IsCircuitOfText (second_format p) second k) → AreNetlists p first second of_c.listed.document of_k.listed.document
-are_netlists p first second c k of_c of_k = record {
-  first_is = record {
-    listed = of_c.listed;
-    said = of_c.said;
-    is = refl;
-    within = text_within (first_format p) first c of_c;
-    well = of_c.well;
-  };
-  second_is = record {
-    listed = of_k.listed;
-    said = of_k.said;
-    is = refl;
-    within = text_within (second_format p) second k of_k;
-    well = of_k.well;
-  };
-}
 
 names_same : (d : Document) (c : Circuit) → Describes d c → source_names d ≡ sources_of c
 names_same d c of =
@@ -111,9 +92,6 @@ valued_found p bits first second c k (Text text) of_c of_k sections found = text
 valued_found p bits first second c k (Miscounted count) of_c of_k sections found = count_found p bits first second c k count of_c of_k sections found
 
 -- ---- the refusals
-
-netlist_of : (f : Format) (bytes : List ℕ) (c : Circuit) → IsCircuitOfText f bytes c → IsNetlist f bytes
-netlist_of f bytes c of = text_netlist f bytes c of
 
 first_refused : (p : FormatPair) (first second : List ℕ) (e : CompareError) → IsFirstRefused (first_format p) first e →
     IsFormatsRefused p first second e

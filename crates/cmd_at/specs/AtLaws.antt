@@ -1,19 +1,16 @@
 -- The task of the values is well formed; the bits of a counterexample are read back.
-use Rattle.std.specs.Prelude.{◌≡◌, ℕ, List, [], ◌∷◌, Bool, true, false, length, map, if◌then◌else◌, Some, None, Result, Ok}
+use Rattle.std.specs.Prelude.{◌≡◌, ℕ, List, [], ◌∷◌, Bool, true, false, length, map, if◌then◌else◌, Some, None}
 use Rattle.std.proofs.Common.{sym, ◌∙◌, ap, refl, inl, inr}
 use Rattle.std.proofs.lemmas.List.{length-map}
 use Rattle.net_theory.specs.Limits.{most_of_netlist}
 use Rattle.net_theory.specs.Document.{Document, source_names}
-use Rattle.net_core.specs.declared.error.NetError.{NetError}
-use Rattle.net_document.specs.Listed.{Listed}
-use Rattle.net_document.specs.Format.{Format}
 use Rattle.format_names.specs.declared.formats.FormatPair.{FormatPair}
 use Rattle.equiv_run.specs.declared.answer.CompareError.{CompareError}
 use Rattle.equiv_run.specs.declared.answer.CompareError.TheVariants.{NoSecond, First, Second, DifferentInterface, Memory}
 use Rattle.equiv_run.specs.Texts.{characters, bits_text}
 use Rattle.equiv_run.specs.Two.{is_bare}
-use Rattle.equiv_formats.specs.Comparison.{Lists, first_format, HasFormatsFault}
-use Rattle.equiv_formats.specs.ComparisonLaws.{formats_sound, formats_one}
+use Rattle.equiv_formats.specs.Comparison.{first_format, HasFormatsFault}
+use Rattle.equiv_formats.specs.ComparisonLaws.{lists_one, formats_sound, formats_one}
 use Rattle.frame_core.specs.Task.{IsRefusalStatus, IsTask}
 use Rattle.frame_core.specs.TaskLaws.{at_once_task}
 use Rattle.cmd_lines.specs.NetLineLaws.{status_kind}
@@ -47,15 +44,7 @@ refusal_statuses p bits first second (OtherCount count) meets = inl refl
 both : {A : Type 0} (b : Bool) → b ≡ true → b ≡ false → A
 both b is isnt = let e : true ≡ false = sym is ∙ isnt in cc
 
--- a text has one document
-ok_one : (r : Result Listed NetError) (k l : Listed) → r ≡ Ok k → r ≡ Ok l → k ≡ l
-ok_one r k l x y = cc
-
-lists_one : (f : Format) (bytes : List ℕ) (d e : Document) → Lists f bytes d → Lists f bytes e → d ≡ e
-lists_one f bytes d e x y =
-    sym x.is ∙ ap (λ (l : Listed). l.document) (ok_one (f.listed bytes) x.listed y.listed x.said y.said) ∙ y.is
-
--- so it has one number of sources
+-- a text has one document, so that it has one number of sources
 counts_same : (p : FormatPair) (bits : List Bool) (first second : List ℕ) (m n : ℕ) →
     IsOtherCount p bits first second m → IsOtherCount p bits first second n → m ≡ n
 counts_same p bits first second m n x y =

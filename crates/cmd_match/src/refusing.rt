@@ -1,7 +1,8 @@
 //! The refusals of a comparison by names.
 ghost use Rattle.std.specs.Prelude.{◌≡◌};
 ghost use Rattle.frame_core.specs.Views.{refusal_value};
-ghost use Rattle.cmd_match.specs.MatchReport.{side_word, kind_word, lack_refusal, latches_refusal, error_refusal};
+ghost use Rattle.cmd_match.specs.MatchReport.{side_word, kind_word, lack_refusal, latches_refusal};
+ghost use Rattle.cmd_match.specs.MatchReport.{pair_refusal, error_refusal};
 
 use equiv_match::{CompareError, Lack, MatchError, NameKind};
 use frame_core::{ErrorLine, Field, Refusal, Status};
@@ -56,13 +57,25 @@ fn other_latches() -> Refusal
     }
 }
 
+/// The refusal of two netlists that share their names, or of one with a fault.
+fn refusal_of_pair(error: CompareError) -> Refusal
+    ensures { refusal_value result ≡ pair_refusal error }
+{
+    match error {
+        CompareError::NoSecond => cmd_equiv::refusal_of(CompareError::NoSecond),
+        CompareError::First(fault) => cmd_equiv::refusal_of(CompareError::First(fault)),
+        CompareError::Second(fault) => cmd_equiv::refusal_of(CompareError::Second(fault)),
+        CompareError::DifferentInterface => other_latches(),
+        CompareError::Memory => cmd_equiv::refusal_of(CompareError::Memory),
+    }
+}
+
 /// The refusal for an error other than out of memory.
 pub(crate) fn refusal_of(error: MatchError) -> Refusal
     ensures { refusal_value result ≡ error_refusal error }
 {
     match error {
         MatchError::Lacks(lack) => lacking(lack),
-        MatchError::Refused(CompareError::DifferentInterface) => other_latches(),
-        MatchError::Refused(other) => cmd_equiv::refusal_of(other),
+        MatchError::Refused(error) => refusal_of_pair(error),
     }
 }

@@ -28,7 +28,8 @@ use Rattle.equiv_formats.specs.Comparison.{share_sections, ShareSections, AreSec
 
 -- ---- documents
 
-lists_of : (f : Format) (bytes : List ℕ) (c : Circuit) → (of : IsCircuitOfText f bytes c) → Lists f bytes of.listed.document
+-- of circuits that were read
+pub lists_of : (f : Format) (bytes : List ℕ) (c : Circuit) → (of : IsCircuitOfText f bytes c) → Lists f bytes of.listed.document
 lists_of f bytes c of = record {
   listed = of.listed;
   said = of.said;
@@ -37,21 +38,21 @@ lists_of f bytes c of = record {
   well = of.well;
 }
 
-are_netlists : (p : FormatPair) (first second : List ℕ) (c k : Circuit) → (of_c : IsCircuitOfText (first_format p) first c) →
+pub are_netlists : (p : FormatPair) (first second : List ℕ) (c k : Circuit) → (of_c : IsCircuitOfText (first_format p) first c) →
     (of_k : IsCircuitOfText (second_format p) second k) → AreNetlists p first second of_c.listed.document of_k.listed.document
 are_netlists p first second c k of_c of_k = record {
   first_is = lists_of (first_format p) first c of_c;
   second_is = lists_of (second_format p) second k of_k;
 }
 
--- a text has one document
 ok_one : (r : Result Listed NetError) (k l : Listed) → r ≡ Ok k → r ≡ Ok l → k ≡ l
 ok_one r k l x y = cc
 
-lists_one : (f : Format) (bytes : List ℕ) (d e : Document) → Lists f bytes d → Lists f bytes e → d ≡ e
+-- a text has one document
+pub lists_one : (f : Format) (bytes : List ℕ) (d e : Document) → Lists f bytes d → Lists f bytes e → d ≡ e
 lists_one f bytes d e x y = sym x.is ∙ ap (λ (l : Listed). l.document) (ok_one (f.listed bytes) x.listed y.listed x.said y.said) ∙ y.is
 
-netlist_listed : (f : Format) (bytes : List ℕ) (d : Document) → Lists f bytes d → IsNetlist f bytes
+pub netlist_listed : (f : Format) (bytes : List ℕ) (d : Document) → Lists f bytes d → IsNetlist f bytes
 netlist_listed f bytes d lists = record {
   listed = lists.listed;
   said = lists.said;
@@ -85,7 +86,7 @@ says_no_sink f bytes c no_sink of is d lists =
 
 -- ---- the refusals
 
-netlist_of : (f : Format) (bytes : List ℕ) (c : Circuit) → IsCircuitOfText f bytes c → IsNetlist f bytes
+pub netlist_of : (f : Format) (bytes : List ℕ) (c : Circuit) → IsCircuitOfText f bytes c → IsNetlist f bytes
 netlist_of f bytes c of = faults.text_netlist f bytes c of
 
 first_refused : (p : FormatPair) (first second : List ℕ) (e : CompareError) → IsFirstRefused (first_format p) first e → IsFormatsRefused p first second e

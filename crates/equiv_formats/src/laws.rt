@@ -11,7 +11,8 @@ ghost use Rattle.equiv_formats.specs.Comparison.{AreNetlists, ShareSections, IsF
 /// and the same sections if both are AIGER, have no fault.
 pub fn netlists_have_an_answer_or_a_fault()
     ensures apart { (p : FormatPair) (budget : ℕ) (first second text : List ℕ) (told : Option (List ℕ))
-        (outcome : EquivOutcome) (e : CompareError) → IsFormatsAnswer p budget first second text told outcome → HasFormatsFault p first second e → ⊥ }
+        (outcome : EquivOutcome) (e : CompareError) → IsFormatsAnswer p budget first second text told outcome →
+        HasFormatsFault p first second e → ⊥ }
     ensures one { (p : FormatPair) (first second : List ℕ) (a b : CompareError) → HasFormatsFault p first second a →
         HasFormatsFault p first second b → a ≡ b }
     ensures sound { (p : FormatPair) (first second : List ℕ) (d k : Document) (e : CompareError) →

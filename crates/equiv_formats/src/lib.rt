@@ -4,8 +4,8 @@
 //!
 //! The theorem is that of `compare_netlists`: `equal` is answered only if the documents that the two texts list, each
 //! in its format, are equivalent, and `differ` only with values of the sources under which an output or a next state
-//! differs, which is told by names too. Two texts that can't be compared are refused with their first fault, and nothing
-//! else is refused, but if memory runs out.
+//! differs, which is told by names too. Two texts that can't be compared are refused with their first fault, and
+//! nothing else is refused, but if memory runs out.
 //!
 //! ```text
 //! let formats = FormatPair { first: NetFormat::Aiger, second: NetFormat::Blif };

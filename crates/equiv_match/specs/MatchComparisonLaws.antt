@@ -4,11 +4,10 @@ use Rattle.std.proofs.Common.{arith, ap, sym, ◌∙◌, subst}
 use Rattle.std.proofs.lemmas.List.{length-map}
 use Rattle.net_theory.specs.Limits.{most_of_two}
 use Rattle.net_theory.specs.Document.{Name, Latch, Document, latch_output, latches_of, source_names}
-use Rattle.net_theory.specs.WellFormed.{IsWellFormed}
 use Rattle.net_theory.specs.Circuit.{Circuit, IsProper, Describes, IsCircuitOf, sources_of}
 use Rattle.net_core.specs.declared.error.NetError.{NetError}
 use Rattle.net_document.specs.Listed.{Listed}
-use Rattle.net_document.specs.Format.{Format, IsNetlist, IsCircuitOfText, HasNetFault}
+use Rattle.net_document.specs.Format.{IsNetlist, IsCircuitOfText, HasNetFault}
 use Rattle.net_document.specs.FormatLaws as faults
 use Rattle.format_names.specs.declared.formats.NetFormat.{NetFormat}
 use Rattle.format_names.specs.declared.formats.FormatPair.{FormatPair}
@@ -22,7 +21,8 @@ use Rattle.equiv_run.specs.Pairs.{ShareInterface}
 use Rattle.equiv_run.specs.PairLaws.{shared, have_same}
 use Rattle.equiv_values.specs.Named.{IsNamedCircuitAnswer}
 use Rattle.equiv_values.specs.NamedLaws.{named_of, named_interface}
-use Rattle.equiv_formats.specs.Comparison.{Lists, first_format, second_format, AreNetlists}
+use Rattle.equiv_formats.specs.Comparison.{first_format, second_format, AreNetlists}
+use Rattle.equiv_formats.specs.ComparisonLaws.{lists_one, are_netlists, netlist_listed, netlist_of}
 use Rattle.equiv_formats.specs.SmallLaws.{small_circuit}
 use Rattle.match_core.specs.declared.lacking.Lack.{Lack}
 use Rattle.match_core.specs.Matched.{ShareNames, matched}
@@ -41,31 +41,10 @@ names_same d c of =
     ap (λ (ns : List Name). ns ++ map latch_output (latches_of d)) of.inputs
     ∙ ap (λ (ls : List Latch). c.inputs ++ map latch_output ls) of.latches
 
-are_netlists : (p : FormatPair) (first second : List ℕ) (c k : Circuit) → (of_c : IsCircuitOfText (first_format p) first c) →
-    (of_k : IsCircuitOfText (second_format p) second k) → AreNetlists p first second of_c.listed.document of_k.listed.document
-are_netlists p first second c k of_c of_k = record {
-  first_is = record { listed = of_c.listed; said = of_c.said; is = refl; well = of_c.well };
-  second_is = record { listed = of_k.listed; said = of_k.said; is = refl; well = of_k.well };
-}
+-- ---- the second in the order of the first
 
 ok_one : (r : Result Listed NetError) (k l : Listed) → r ≡ Ok k → r ≡ Ok l → k ≡ l
 ok_one r k l x y = cc
-
-lists_one : (f : Format) (bytes : List ℕ) (d e : Document) → Lists f bytes d → Lists f bytes e → d ≡ e
-lists_one f bytes d e x y =
-    sym x.is ∙ ap (λ (l : Listed). l.document) (ok_one (f.listed bytes) x.listed y.listed x.said y.said) ∙ y.is
-
-netlist_listed : (f : Format) (bytes : List ℕ) (d : Document) → Lists f bytes d → IsNetlist f bytes
-netlist_listed f bytes d lists = record {
-  listed = lists.listed;
-  said = lists.said;
-  well = subst (λ (x : Document). IsWellFormed x) (sym lists.is) lists.well;
-}
-
-netlist_of : (f : Format) (bytes : List ℕ) (c : Circuit) → IsCircuitOfText f bytes c → IsNetlist f bytes
-netlist_of f bytes c of = record { listed = of.listed; said = of.said; well = of.well }
-
--- ---- the second in the order of the first
 
 -- neither lacks a name of the other
 names_shared : (p : FormatPair) (first second : List ℕ) (c : Circuit) → (of : IsCircuitOfText (first_format p) first c) →

@@ -11,6 +11,7 @@ use format_names::NetFormat;
 use match_core::arrange;
 use net_build::circuit_of;
 use net_core::Circuit;
+use net_theory::MOST_GATES;
 use std::alloc::{AllocError, Global};
 
 /// The circuit of a text in the order of another one. It was read before, so that nothing is missing but memory.
@@ -30,7 +31,7 @@ pub(crate) fn ordered_circuit(
         return Err(AllocError);
     };
     let ordered = arrange(alloc, listed, first)?;
-    match circuit_of(alloc, ordered) {
+    match circuit_of(alloc, ordered, MOST_GATES) {
         Ok(circuit) => Ok(circuit),
         Err(_) => Err(AllocError),
     }

@@ -23,7 +23,7 @@ pub struct Input<'a> {
     /// How many lines of the file come before it; None if that isn't known.
     pub before: Option<u32>,
     /// The most bytes of it that are read, if an option says so.
-    pub most_bytes: Option<u32>,
+    pub most_bytes: Option<usize>,
 }
 
 impl<'a> Input<'a> {
@@ -211,7 +211,7 @@ fn push_too_long(text: &mut Vec<u8>, subject: Subject, input: Input) -> Result<(
         Some(most) => push_parts(
             text,
             &[
-                Part::Number(most),
+                Part::Count(most),
                 Part::Text(b" bytes are read, as --most-bytes says"),
             ],
         ),

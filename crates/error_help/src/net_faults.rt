@@ -2,7 +2,9 @@
 
 use crate::expected::{Entry, Place};
 use help_text::Part;
-use net_theory::{DEFAULT_GATES, MOST_CUBES, MOST_LINE_BYTES, MOST_NAME_BYTES, MOST_TABLE_INPUTS};
+use net_theory::{
+    DEFAULT_GATES, MOST_CUBES, MOST_GATES, MOST_LINE_BYTES, MOST_NAME_BYTES, MOST_TABLE_INPUTS,
+};
 
 /// Faults of netlists of both formats.
 pub(crate) const NETLISTS: &[Entry] = &[

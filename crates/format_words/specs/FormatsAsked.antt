@@ -67,8 +67,10 @@ by_names options = if is_names (word_after (codes "--match") options) then not (
 
 -- A comparison of two files is one by names, if the words ask for that.
 abbrev pub matched : Bool → FormatsAsked → FormatsAsked
-matched true (Compare pair) = Match pair
-matched by asked = asked
+matched by (Compare pair) = if by then Match pair else Compare pair
+matched by Own = Own
+matched by ImproveAiger = ImproveAiger
+matched by (Match pair) = Match pair
 
 abbrev pub files_asked : Option (List ℕ) → List (List ℕ) → FormatsAsked
 files_asked named [] = Own
@@ -152,7 +154,8 @@ plain_on None words = words
 plain_on (Some line) words = plain_in (asked_in line.words line.operands) words line
 
 -- The words that mean the same to a program that knows none of these formats, and compares as is asked: without
--- `--format` and `--match names`; for `improve` of AIGER with `--format blif`, and with the basis `u2` if none is named. Other words stay as they are.
+-- `--format` and `--match names`; for `improve` of AIGER with `--format blif`, and with the basis `u2` if none is
+-- named. Other words stay as they are.
 -- Example: of `improve --format aiger --cap 4 a` they are `improve --cap 4 --format blif --basis u2 -- a`.
 abbrev pub plain_words : List (List ℕ) → List (List ℕ)
 plain_words words = plain_on (file_line words) words

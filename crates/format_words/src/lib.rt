@@ -3,8 +3,8 @@
 //!
 //! A format is named by `--format aiger`, or by the end of a file's name (`.aag`, `.aig`, `.bench`). `read_formats`
 //! says what is asked (`specs/FormatsAsked.antt`), and which words mean the same to a program that knows no such
-//! format: `--format` and `--match names` are left out, and `improve` of AIGER gets `--format blif`, so that the name of its file has no
-//! say, and the basis `u2` if none is named.
+//! format: `--format` and `--match names` are left out, and `improve` of AIGER gets `--format blif`, so that the name
+//! of its file has no say, and the basis `u2` if none is named.
 //!
 //! ```text
 //! let found = read_formats(alloc, &words)?; // of improve a.aag --cap 4

@@ -17,7 +17,7 @@ pub trait Improves {
 #[derive(Clone, Copy)]
 pub(crate) struct Reading {
     pub(crate) subject: Subject,
-    pub(crate) most_bytes: Option<u32>,
+    pub(crate) most_bytes: Option<usize>,
 }
 
 /// What a netlist in a format is.
@@ -70,11 +70,11 @@ fn large_reading(alloc: Global, words: &Vec<String>) -> Option<Reading> {
         Ok(Some(Large::Part(_))) => Some(usual(Subject::Tables)),
         Ok(Some(Large::Steps(most))) => Some(Reading {
             subject: Subject::Certificate,
-            most_bytes: Some(most),
+            most_bytes: Some(most as usize),
         }),
         Ok(Some(Large::Levels(most))) => Some(Reading {
             subject: Subject::Depth,
-            most_bytes: Some(most),
+            most_bytes: Some(most as usize),
         }),
         Ok(None) | Err(_) => None,
     }

@@ -58,6 +58,10 @@ const WRONG: &[(&str, &str)] = &[
         "batsokemi: recheck has no option '--conflicts'; it has --depth --most-bytes -o (batsokemi help recheck)\n",
     ),
     (
+        "recheck --most-bytes 1099511627777",
+        "batsokemi: --most-bytes takes 0 to 1099511627776, and not '1099511627777' (batsokemi help recheck)\n",
+    ),
+    (
         "improve --format bench --basis all",
         "batsokemi: with --format bench the basis has operators of bench alone, \
          and not 'all' (batsokemi help improve)\n",

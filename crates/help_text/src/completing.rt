@@ -22,7 +22,7 @@ fn values_of(row: &Row) -> &'static [&'static [u8]] {
     match row.allowed {
         Allowed::Words(words) | Allowed::WordsOr(words, _) => words,
         Allowed::Basis => BASES,
-        Allowed::Number(_, _) | Allowed::File | Allowed::Bits => &[],
+        Allowed::Number(_, _) | Allowed::Bytes(_) | Allowed::File | Allowed::Bits => &[],
     }
 }
 

@@ -26,6 +26,9 @@ fn push_kind(table: &mut Vec<u8>, allowed: Allowed) -> Result<(), AllocError> {
                 Part::Number(high),
             ],
         ),
+        Allowed::Bytes(high) => {
+            push_parts(table, &[Part::Text(b"number 0 "), Part::Count(high)])
+        }
         Allowed::Words(words) => {
             table.extend_from_slice(b"word")?;
             push_words(table, words)

@@ -13,6 +13,8 @@ use text_core::MOST_NUMBER;
 pub(crate) enum Allowed {
     /// A number from the first to the second.
     Number(u32, u32),
+    /// A number of bytes up to this one.
+    Bytes(usize),
     /// One of these words.
     Words(&'static [&'static [u8]]),
     /// A set of operators.
@@ -64,7 +66,7 @@ pub(crate) struct Row {
 /// The most bytes of a certificate that are read if no number is named, and the greatest number.
 const MOST_OF_CERTIFICATE: u32 = 268_435_456;
 
-const MOST_OF_LONG: u32 = 2_147_483_647;
+const MOST_OF_LONG: usize = 1_099_511_627_776;
 
 /// The greatest number of levels that can be named.
 const MOST_LEVELS: u32 = 1_000_000;
@@ -202,7 +204,7 @@ const RECHECK: &[Row] = &[
     Row {
         name: b"--most-bytes",
         value: b"N",
-        allowed: Allowed::Number(0, MOST_OF_LONG),
+        allowed: Allowed::Bytes(MOST_OF_LONG),
         default: Default::Number(MOST_OF_CERTIFICATE),
         says: b"the most bytes that are read; the memory is that of one formula and its live clauses",
     },

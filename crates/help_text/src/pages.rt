@@ -98,6 +98,7 @@ pub(crate) fn push_allowed(text: &mut Vec<u8>, allowed: Allowed) -> Result<(), A
             text,
             &[Part::Number(low), Part::Text(b" to "), Part::Number(high)],
         ),
+        Allowed::Bytes(high) => push_parts(text, &[Part::Text(b"0 to "), Part::Count(high)]),
         Allowed::Words(words) => push_listed(text, words),
         Allowed::WordsOr(words, high) => {
             push_listed(text, words)?;

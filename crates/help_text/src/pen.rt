@@ -1,5 +1,6 @@
 //! Texts of literals and numbers, words that are wrapped, and what is quoted.
 
+use itoa::Buffer;
 use std::alloc::AllocError;
 use text_core::{next_item, push_number};
 
@@ -22,10 +23,8 @@ const COLUMNS: usize = 100;
 
 /// Appends a number as its digits.
 fn push_count(text: &mut Vec<u8>, count: usize) -> Result<(), AllocError> {
-    match u32::try_from(count) {
-        Ok(number) => push_number(text, number),
-        Err(_) => text.extend_from_slice(b"many"),
-    }
+    let mut buffer = Buffer::new();
+    text.extend_from_slice(buffer.format(count).as_bytes())
 }
 
 /// Appends parts, one after the other.

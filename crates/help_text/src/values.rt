@@ -72,6 +72,22 @@ pub(crate) fn is_bits(word: &[u8]) -> bool {
     !word.is_empty()
 }
 
+/// Whether a word spells a number of bytes up to `most`, without a leading 0.
+pub(crate) fn is_bytes(most: usize, word: &[u8]) -> bool {
+    if let [] | [b'0', _, ..] = word {
+        return false;
+    }
+    let mut count: usize = 0;
+    for byte in word {
+        if !byte.is_ascii_digit() {
+            return false;
+        }
+        let digit = byte.saturating_sub(b'0');
+        count = count.saturating_mul(10).saturating_add(usize::from(digit));
+    }
+    count <= most
+}
+
 /// Whether a word ends with a text.
 pub(crate) fn ends_with(word: &[u8], end: &[u8]) -> bool {
     let mut left = word;

@@ -6,7 +6,7 @@ use crate::options::{Allowed, Row, options_of, row_named};
 use crate::pen::{Part, push_parts};
 use crate::phrases::{push_takes, push_word};
 use crate::topics::push_topic_names;
-use crate::values::{is_bits, is_option, value_of};
+use crate::values::{is_bits, is_bytes, is_option, value_of};
 use op_basis::read_basis;
 use std::alloc::AllocError;
 use text_core::number_up_to;
@@ -45,6 +45,7 @@ fn takes(row: &Row, word: &[u8]) -> bool {
             Some(number) => number >= low,
             None => false,
         },
+        Allowed::Bytes(high) => is_bytes(high, word),
         Allowed::Words(words) => is_among(word, words),
         Allowed::WordsOr(words, high) => {
             is_among(word, words) || number_up_to(high, word).is_some()
