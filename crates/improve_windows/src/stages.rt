@@ -1,8 +1,13 @@
 //! The stages of moves: when each ends, and how much work it does. 100,000 units take about a millisecond.
 
 /// What the first stage does for each gate: for those up to a number of them, for the further ones up to another, and
-/// for all others.
-const FIRST_WORK: [(u64, u64); 3] = [(100, 400_000), (1_500, 300_000), (u64::MAX, 30_000)];
+/// so on.
+const FIRST_WORK: [(u64, u64); 4] = [
+    (100, 400_000),
+    (1_500, 300_000),
+    (10_000, 30_000),
+    (u64::MAX, 10_000),
+];
 
 /// The first stage ends when this part of its work was done without a gain.
 const PATIENCE_PART: u64 = 2;
