@@ -3,6 +3,7 @@ use Rattle.std.specs.Prelude.{◌≡◌, ℕ, ◌+◌, ◌-◌, ◌≤◌, List,
 use Rattle.chain_theory.specs.Chain.{Step, AreSteps}
 use Rattle.step_core.specs.Steps.{word_in}
 use Rattle.chain_theory.specs.Limits.{most_inputs}
+use Rattle.step_core.specs.Limits.{most_enumerated_steps}
 
 -- steps over n inputs
 pub record StackView : Type 0 where
