@@ -263,7 +263,7 @@ converted_over basis n k net passed other = let is = passed.converted in record 
   operators = is.operators;
   itself = λ all. absurd (differ (are_in basis n.gates) (all_in basis n.gates all) other);
   fewer = λ some. passed.fewer;
-  few = passed.few;
+  few = omega (arith, passed.few);
 }
 
 abbrev net_put : ℕ → List Gate → List Sig → Net

@@ -7,7 +7,7 @@ use Rattle.std.proofs.lemmas.Bool.{cond-true, cond-false}
 use Rattle.chain_theory.specs.Operator.{Basis}
 use Rattle.net_theory.specs.declared.data.Gate.{Gate}
 use Rattle.net_theory.specs.Net.{Net}
-use Rattle.net_theory.specs.Limits.{most_gates}
+use Rattle.net_theory.specs.Limits.{default_gates}
 use Rattle.net_theory.specs.Moving.{Kept}
 use Rattle.net_basis.specs.declared.join.Join.{Join}
 use Rattle.net_basis.specs.declared.recipe.Recipe.{Recipe}
@@ -200,7 +200,7 @@ too_many_at basis rs n sources count word g left rest are other split same_sourc
 
 pub passed_at : (basis : Basis) (rs : List Recipe) (n : Net) (node : ℕ) (left : List Gate) (k : Kept) →
     AreRecipes basis rs → length left ≡ 0 → AreLeft n node left → IsConverted basis n node k →
-    length k.gates ≤ most_gates → n.sources + length k.gates < 2 ^ 31 →
+    length k.gates ≤ default_gates → n.sources + length k.gates < 2 ^ 31 →
     length k.gates + most_over (lengths_by basis rs) left ≤ most_over (lengths_by basis rs) n.gates → IsPassed basis n k
 passed_at basis rs n node left k are none is_left converted few room fewer = record {
   converted = subst (λ (q : ℕ). IsConverted basis n q k) (omega (arith, is_left.all, none)) converted;
@@ -209,6 +209,7 @@ passed_at basis rs n node left k are none is_left converted few room fewer = rec
   fewer = record {
     lengths = lengths_by basis rs;
     are_lengths = are_lengths basis rs are;
+    few = few;
     fewer = omega (arith, fewer, most_none (lengths_by basis rs) left none);
   };
 }

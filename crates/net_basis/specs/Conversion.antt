@@ -6,7 +6,7 @@ use Rattle.chain_theory.specs.Operator.{apply, Basis}
 use Rattle.net_theory.specs.declared.data.Gate.{Gate}
 use Rattle.net_theory.specs.Net.{Net, end_of, sig_value, gate_value}
 use Rattle.net_theory.specs.Moving.{Kept}
-use Rattle.net_theory.specs.Limits.{most_gates}
+use Rattle.net_theory.specs.Limits.{default_gates}
 use Rattle.net_basis.specs.declared.recipe.Recipe.{Recipe}
 use Rattle.net_basis.specs.declared.expressing.Expressed.{Expressed}
 use Rattle.net_basis.specs.declared.expressing.Expressed.TheVariants as gates
@@ -47,7 +47,7 @@ IsFunctionOf word g = (f : ℕ → Bool) → apply word (sig_value f g.a) (sig_v
 
 -- with so many more gates a net could have too many gates or nodes
 abbrev pub MayEndAt : ℕ → ℕ → ℕ → Type 0
-MayEndAt sources count more = most_gates < count + more ⊎ 2 ^ 31 ≤ sources + 1 + count + more
+MayEndAt sources count more = default_gates < count + more ⊎ 2 ^ 31 ≤ sources + 1 + count + more
 
 -- A gate has a signal of its value over the basis, or its function can't be expressed, or with so many more gates there
 -- could be too many.
@@ -59,7 +59,7 @@ IsGateAnswer basis word more sources old new g gates.TooMany = MayEndAt sources 
 -- all gates have signals of their values, and a net may have so many
 pub record IsPassed (basis : Basis) (n : Net) (k : Kept) : Type 0 where
   pub converted : IsConverted basis n (end_of n) k
-  pub few : length k.gates ≤ most_gates
+  pub few : length k.gates ≤ default_gates
   pub room : n.sources + length k.gates < 2 ^ 31
   pub fewer : IsFewOver basis n (net_with n k)
 

@@ -8,7 +8,7 @@ use Rattle.net_theory.specs.Net.{Net, IsNet, sink_values}
 use Rattle.net_theory.specs.Implements.{IsTrivialSink}
 use Rattle.net_theory.specs.Circuit.{Circuit, IsProper}
 use Rattle.net_theory.specs.ExchangeLaws.{with_net}
-use Rattle.net_theory.specs.Limits.{most_gates}
+use Rattle.net_theory.specs.Limits.{default_gates, most_gates}
 use Rattle.net_document.specs.Equivalence.{AreEquivalentCircuits}
 use Rattle.net_basis.specs.declared.join.Join.{Join}
 use Rattle.net_basis.specs.Joins.{operands, makes, is_closed}
@@ -87,10 +87,11 @@ most_over lengths (g ∷ gs) = lengths (local_word g) + most_over lengths gs
 
 -- ---- converted
 
--- m has no more gates than take the place of those of n
+-- m has no more gates than take the place of those of n, and at most as many as a netlist that is read by default
 pub record IsFewOver (basis : Basis) (n m : Net) : Type 0 where
   pub lengths : ℕ → ℕ
   pub are_lengths : AreLengths basis lengths
+  pub few : length m.gates ≤ default_gates
   pub fewer : length m.gates ≤ most_over lengths n.gates
 
 -- m is n over the basis: n itself if all its gates have operators of the basis, and else with no more gates than take
@@ -110,12 +111,12 @@ pub record IsCircuitOver (basis : Basis) (c k : Circuit) : Type 0 where
   pub over : IsNetOver basis c.net k.net
 
 -- Not all gates of n have operators of the basis, and with the gates that take the place of those of n, the net could
--- have more than a netlist may have, or 2^31 nodes.
+-- have more than a netlist that is read by default, or 2^31 nodes.
 pub record MayHaveTooMany (basis : Basis) (n : Net) : Type 0 where
   pub other : HaveOperatorsIn basis n.gates → ⊥
   pub lengths : ℕ → ℕ
   pub are_lengths : AreLengths basis lengths
-  pub many : most_gates < most_over lengths n.gates ⊎ 2 ^ 31 ≤ n.sources + 1 + most_over lengths n.gates
+  pub many : default_gates < most_over lengths n.gates ⊎ 2 ^ 31 ≤ n.sources + 1 + most_over lengths n.gates
 
 -- ---- answers
 

@@ -4,7 +4,7 @@ ghost use Rattle.std.specs.Prelude.{◌≡◌, ◌+◌, ◌≤◌, ◌<◌, ◌^
 ghost use Rattle.std.specs.Prelude.{slice_get, Some};
 ghost use Rattle.op_basis.specs.Basis.{members};
 ghost use Rattle.net_theory.specs.Net.{IsGateAt, AreGates};
-ghost use Rattle.net_theory.specs.Limits.{most_gates};
+ghost use Rattle.net_theory.specs.Limits.{default_gates};
 ghost use Rattle.net_basis.specs.Joins.{operands as operands_of, makes};
 ghost use Rattle.net_basis.specs.Placing.{AreRecipes, IsSignalOf, IsMemberFor};
 ghost use Rattle.net_basis.specs.OverBasis.{most_for_one};
@@ -15,7 +15,7 @@ use crate::local::local_word;
 use crate::placing::push_chain;
 use crate::recipe::Recipe;
 use net_core::{Gate, Sig};
-use net_theory::MOST_GATES;
+use net_theory::DEFAULT_GATES;
 use op_basis::{Basis, Op};
 use std::alloc::AllocError;
 
@@ -32,13 +32,13 @@ pub enum Expressed {
 
 /// Whether a net may have so many more gates.
 pub fn has_room(sources: u32, gates: usize, more: usize) -> bool
-    requires gates { gates ≤ most_gates }
+    requires gates { gates ≤ default_gates }
     requires more { more < 2 ^ 62 }
     ensures nodes { result ≡ true → sources + 1 + gates + more < 2 ^ 31 }
-    ensures gates { result ≡ true → gates + more ≤ most_gates }
+    ensures gates { result ≡ true → gates + more ≤ default_gates }
     ensures none { result ≡ false → MayEndAt sources gates more }
 {
-    if gates + more > MOST_GATES as usize {
+    if gates + more > DEFAULT_GATES as usize {
         return false;
     }
     (sources as usize) + 1 + gates + more < 1 << 31
@@ -110,12 +110,12 @@ fn keep(
 ) -> Result<Expressed, AllocError>
     requires gates { AreGates sources gates.old.items }
     requires gate { IsGateAt (sources + 1 + length gates.old.items) gate.now }
-    requires few { vec_len gates.old ≤ most_gates }
+    requires few { vec_len gates.old ≤ default_gates }
     requires room { sources + vec_len gates.old < 2 ^ 31 }
     requires member { IsMemberFor (members basis) gate.now member }
     ensures answer { IfOk result (IsGateAnswer (members basis) word 1 sources gates.old.items gates.new.items
         gate.now) }
-    ensures few { OnOk result (vec_len gates.new ≤ most_gates) }
+    ensures few { OnOk result (vec_len gates.new ≤ default_gates) }
     ensures room { OnOk result (sources + vec_len gates.new < 2 ^ 31) }
     ensures more { OnOk result (vec_len gates.new ≤ vec_len gates.old + 1) }
 {
@@ -142,11 +142,11 @@ fn replace(
     requires value { IsFunctionOf function gate.now }
     requires gates { AreGates sources gates.old.items }
     requires gate { IsGateAt (sources + 1 + length gates.old.items) gate.now }
-    requires few { vec_len gates.old ≤ most_gates }
+    requires few { vec_len gates.old ≤ default_gates }
     requires room { sources + vec_len gates.old < 2 ^ 31 }
     ensures answer { IfOk result (IsGateAnswer (members basis) word (length recipe.now.joins.items) sources
         gates.old.items gates.new.items gate.now) }
-    ensures few { OnOk result (vec_len gates.new ≤ most_gates) }
+    ensures few { OnOk result (vec_len gates.new ≤ default_gates) }
     ensures room { OnOk result (sources + vec_len gates.new < 2 ^ 31) }
     ensures more { OnOk result (vec_len gates.new ≤ vec_len gates.old + length recipe.now.joins.items) }
 {
@@ -225,11 +225,11 @@ fn by_recipe(
     requires function { IsFunctionOf word gate.now }
     requires gates { AreGates sources gates.old.items }
     requires gate { IsGateAt (sources + 1 + length gates.old.items) gate.now }
-    requires few { vec_len gates.old ≤ most_gates }
+    requires few { vec_len gates.old ≤ default_gates }
     requires room { sources + vec_len gates.old < 2 ^ 31 }
     ensures answer { IfOk result (IsGateAnswer (members basis) word (steps_of (slice_get recipes.now word)) sources
         gates.old.items gates.new.items gate.now) }
-    ensures few { OnOk result (vec_len gates.new ≤ most_gates) }
+    ensures few { OnOk result (vec_len gates.new ≤ default_gates) }
     ensures room { OnOk result (sources + vec_len gates.new < 2 ^ 31) }
     ensures more { OnOk result (vec_len gates.new ≤ vec_len gates.old + steps_of (slice_get recipes.now word)) }
 {
@@ -255,11 +255,11 @@ pub fn express(
     requires function { IsFunctionOf word gate.now }
     requires gates { AreGates sources gates.old.items }
     requires gate { IsGateAt (sources + 1 + length gates.old.items) gate.now }
-    requires few { vec_len gates.old ≤ most_gates }
+    requires few { vec_len gates.old ≤ default_gates }
     requires room { sources + vec_len gates.old < 2 ^ 31 }
     ensures answer { IfOk result (IsGateAnswer (members basis) word (lengths_by (members basis) recipes.now word)
         sources gates.old.items gates.new.items gate.now) }
-    ensures few { OnOk result (vec_len gates.new ≤ most_gates) }
+    ensures few { OnOk result (vec_len gates.new ≤ default_gates) }
     ensures room { OnOk result (sources + vec_len gates.new < 2 ^ 31) }
     ensures more { OnOk result (vec_len gates.new ≤ vec_len gates.old + lengths_by (members basis) recipes.now word) }
 {
