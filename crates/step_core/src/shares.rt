@@ -52,6 +52,9 @@ fn touched_by(spec: &Spec, stack: &StepStack, reads: u32, missing: u32, before: 
         if !is_one(rows, row) {
             continue;
         }
+        if touched == missing {
+            return touched;
+        }
         let same = alike(stack, others, row);
         touched = with_clashing(spec, missing, touched, row, same);
         rows ^= rows & same;
@@ -80,6 +83,9 @@ fn grown(spec: &Spec, stack: &StepStack, reads: u32, missing: u32, group: u32) -
     for before in 0..stack.n() + stack.len() {
         if !has(reads, before) {
             continue;
+        }
+        if wider == missing {
+            return wider;
         }
         let touched = touched_by(spec, stack, reads, missing, before);
         wider = merged(wider, touched);
