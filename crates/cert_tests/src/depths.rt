@@ -87,8 +87,7 @@ fn is_judged(
 ) -> bool {
     match text_of(alloc, certificate, following) {
         Ok(text) => {
-            check_depth(alloc, &text) == answer
-                && comes_in_pieces::<Stage>(alloc, &text, &answer)
+            check_depth(alloc, &text) == answer && comes_in_pieces::<Stage>(alloc, &text, &answer)
         }
         Err(_) => false,
     }

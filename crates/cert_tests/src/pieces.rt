@@ -6,8 +6,11 @@ use line_reader::{LineStage, PieceReader};
 use std::alloc::Global;
 
 /// Feeds two pieces.
-fn in_two<S: LineStage>(alloc: Global, prefix: &[u8], following: &[u8]) -> Result<S::End, S::Fault>
-{
+fn in_two<S: LineStage>(
+    alloc: Global,
+    prefix: &[u8],
+    following: &[u8],
+) -> Result<S::End, S::Fault> {
     let reader: PieceReader<S> = PieceReader::new(alloc);
     reader.feed(prefix)?.feed(following)?.finish()
 }
