@@ -1,12 +1,15 @@
 -- The result of comparing two texts.
-use Rattle.std.specs.Prelude.{◌≡◌, ℕ, ◌≤◌, List, length, Option, Bool, true, false, codes}
+use Rattle.std.specs.Prelude.{◌≡◌, ℕ, ◌≤◌, List, length, Option, Bool, true, false, codes, refl}
+use Rattle.std.proofs.Common.{sym, subst}
 use Rattle.std.proofs.lemmas.Grind.{common_steps}
 use Rattle.net_theory.specs.Limits.{most_of_netlist}
 use Rattle.format_names.specs.declared.formats.FormatPair.{FormatPair}
 use Rattle.equiv_run.specs.declared.answer.EquivOutcome.{EquivOutcome}
+use Rattle.equiv_run.specs.declared.answer.CompareError.{CompareError}
 use Rattle.equiv_run.specs.declared.answer.CompareError.TheVariants.{Memory}
+use Rattle.match_core.specs.declared.lacking.Lack.{Lack}
 use Rattle.equiv_match.specs.declared.error.MatchError.{MatchError}
-use Rattle.equiv_match.specs.declared.error.MatchError.TheVariants.{Refused}
+use Rattle.equiv_match.specs.declared.error.MatchError.TheVariants.{Refused, Lacks}
 use Rattle.equiv_run.specs.Two.{is_bare}
 use Rattle.equiv_formats.specs.Comparison.{first_format, SaysNoSink}
 use Rattle.equiv_match.specs.MatchComparison.{IsMatchedAnswer, IsMatchRefused}
@@ -15,7 +18,7 @@ use Rattle.frame_core.specs.Reported.{Reply, Refusal}
 use Rattle.frame_core.specs.Task.{HasReply, Refuses}
 use Rattle.cmd_equiv.specs.WithReport.{empty_refusal}
 use Rattle.cmd_formats.specs.FormatsReport.{named_reply}
-use Rattle.cmd_match.specs.MatchReport.{FirstEmpty, SecondEmpty, Faulty, error_refusal, match_task}
+use Rattle.cmd_match.specs.MatchReport.{FirstEmpty, SecondEmpty, Faulty, lack_refusal, pair_refusal, error_refusal, match_task}
 
 pub compares : (p : FormatPair) (budget : ℕ) (first bytes text : List ℕ) (told : Option (List ℕ)) (outcome : EquivOutcome) (no_sink : Bool) (reply : Reply) →
     length bytes ≤ most_of_netlist → is_bare first ≡ false → is_bare bytes ≡ false →
@@ -45,13 +48,28 @@ refuses_second p budget first bytes refusal within one empty is = record {
   is = is;
 }
 
-pub refuses_two : (p : FormatPair) (budget : ℕ) (first bytes : List ℕ) (e : MatchError) (refusal : Refusal) →
-    length bytes ≤ most_of_netlist → is_bare first ≡ false → is_bare bytes ≡ false → (e ≡ Refused Memory → ⊥) →
-    IsMatchRefused p first bytes e → refusal ≡ error_refusal e → Refuses (match_task p budget first) bytes refusal
-refuses_two p budget first bytes e refusal within one other not refused is = record {
+refuses_two : (p : FormatPair) (budget : ℕ) (first bytes : List ℕ) (e : MatchError) → length bytes ≤ most_of_netlist →
+    is_bare first ≡ false → is_bare bytes ≡ false → (e ≡ Refused Memory → ⊥) → IsMatchRefused p first bytes e →
+    Refuses (match_task p budget first) bytes (error_refusal e)
+refuses_two p budget first bytes e within one other not refused = record {
   fault = Faulty e;
   meets = record { within = within; met = record { said = record { one = one; other = other }; fault = matched_fault p first bytes e refused not } };
-  is = is;
+  is = refl;
 }
 
-pub ruleset comparing = (common_steps, compares, refuses_first, refuses_second, refuses_two)
+pub refuses_lacking : (p : FormatPair) (budget : ℕ) (first bytes : List ℕ) (e : MatchError) (lack : Lack) (refusal : Refusal) →
+    length bytes ≤ most_of_netlist → is_bare first ≡ false → is_bare bytes ≡ false → IsMatchRefused p first bytes e →
+    e ≡ Lacks lack → refusal ≡ lack_refusal lack → Refuses (match_task p budget first) bytes refusal
+refuses_lacking p budget first bytes e lack refusal within one other refused is same =
+    subst (λ (r : Refusal). Refuses (match_task p budget first) bytes r) (sym same)
+    (refuses_two p budget first bytes (Lacks lack) within one other (λ x. cc) (subst (IsMatchRefused p first bytes) is refused))
+
+pub refuses_pair : (p : FormatPair) (budget : ℕ) (first bytes : List ℕ) (e : MatchError) (fault : CompareError) (refusal : Refusal) →
+    length bytes ≤ most_of_netlist → is_bare first ≡ false → is_bare bytes ≡ false → IsMatchRefused p first bytes e →
+    e ≡ Refused fault → (fault ≡ Memory → ⊥) → refusal ≡ pair_refusal fault → Refuses (match_task p budget first) bytes refusal
+refuses_pair p budget first bytes e fault refusal within one other refused is not same =
+    subst (λ (r : Refusal). Refuses (match_task p budget first) bytes r) (sym same)
+    (refuses_two p budget first bytes (Refused fault) within one other (λ x. not (let same_fault : fault ≡ Memory = cc in same_fault))
+    (subst (IsMatchRefused p first bytes) is refused))
+
+pub ruleset comparing = (common_steps, compares, refuses_first, refuses_second, refuses_lacking, refuses_pair)

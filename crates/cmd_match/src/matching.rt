@@ -4,7 +4,7 @@ ghost use Rattle.command_line.specs.CommandLine.{IsBudget};
 ghost use Rattle.net_theory.specs.Limits.{most_of_netlist};
 ghost use Rattle.cmd_match.specs.MatchReport.{match_task};
 
-use crate::refusing::refusal_of;
+use crate::refusing::{lacking, refusal_of};
 use cmd_equiv::empty;
 use cmd_formats::reply_of_named;
 use equiv_match::{CompareError, FormatPair, MatchError, compare_matched};
@@ -63,8 +63,11 @@ impl<'a, S: Solver, T: Tell> Replier for EquivMatched<'a, S, T> {
                 Ok(reply) => Ok(reply),
                 Err(AllocError) => Err(Stop::NoMemory),
             },
-            Err(MatchError::Refused(CompareError::Memory)) => Err(Stop::NoMemory),
-            Err(error) => Err(Stop::NoAnswer(refusal_of(error))),
+            Err(error) => match error {
+                MatchError::Lacks(lack) => Err(Stop::NoAnswer(lacking(lack))),
+                MatchError::Refused(CompareError::Memory) => Err(Stop::NoMemory),
+                MatchError::Refused(fault) => Err(Stop::NoAnswer(refusal_of(fault))),
+            },
         }
     }
 }

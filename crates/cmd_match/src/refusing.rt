@@ -1,10 +1,9 @@
 //! The refusals of a comparison by names.
 ghost use Rattle.std.specs.Prelude.{◌≡◌};
 ghost use Rattle.frame_core.specs.Views.{refusal_value};
-ghost use Rattle.cmd_match.specs.MatchReport.{side_word, kind_word, lack_refusal, latches_refusal};
-ghost use Rattle.cmd_match.specs.MatchReport.{pair_refusal, error_refusal};
+ghost use Rattle.cmd_match.specs.MatchReport.{side_word, kind_word, lack_refusal, latches_refusal, pair_refusal};
 
-use equiv_match::{CompareError, Lack, MatchError, NameKind};
+use equiv_match::{CompareError, Lack, NameKind};
 use frame_core::{ErrorLine, Field, Refusal, Status};
 
 /// The word for the netlist that lacks a name.
@@ -27,7 +26,7 @@ fn word_of_kind(kind: NameKind) -> &'static [u8]
 
 /// The refusal of two netlists of which one lacks a name of the other.
 #[tactic(auto, unfolding(frame_core::specs::Views::shown, crate::specs::MatchReport::lack_refusal))]
-fn lacking(lack: Lack) -> Refusal
+pub(crate) fn lacking(lack: Lack) -> Refusal
     ensures { refusal_value result ≡ lack_refusal lack }
 {
     let Lack {
@@ -57,8 +56,8 @@ fn other_latches() -> Refusal
     }
 }
 
-/// The refusal of two netlists that share their names, or of one with a fault.
-fn refusal_of_pair(error: CompareError) -> Refusal
+/// The refusal for an error of `equiv`, where the two netlists share their names.
+pub(crate) fn refusal_of(error: CompareError) -> Refusal
     ensures { refusal_value result ≡ pair_refusal error }
 {
     match error {
@@ -67,15 +66,5 @@ fn refusal_of_pair(error: CompareError) -> Refusal
         CompareError::Second(fault) => cmd_equiv::refusal_of(CompareError::Second(fault)),
         CompareError::DifferentInterface => other_latches(),
         CompareError::Memory => cmd_equiv::refusal_of(CompareError::Memory),
-    }
-}
-
-/// The refusal for an error other than out of memory.
-pub(crate) fn refusal_of(error: MatchError) -> Refusal
-    ensures { refusal_value result ≡ error_refusal error }
-{
-    match error {
-        MatchError::Lacks(lack) => lacking(lack),
-        MatchError::Refused(error) => refusal_of_pair(error),
     }
 }
