@@ -25,7 +25,7 @@ use Rattle.equiv_run.specs.declared.answer.Compared.{Compared}
 use Rattle.equiv_run.specs.Split.{split_of}
 use Rattle.equiv_run.specs.Texts.{differ_text}
 use Rattle.equiv_run.specs.Pairs.{Lists, AreTwo, ShareInterface, sink_in, DocumentsDiffer, IsDocumentAnswer, IsAnswer, HasFirstFault, HasSecondFault, HasPairFault, IsRefusedPair}
-use Rattle.equiv_run.specs.CircuitAnswers.{IsCircuitAnswer, IsOther}
+use Rattle.equiv_run.specs.CircuitAnswers.{IsCircuitAnswer, IsOther, IsSecondRefused}
 use Rattle.equiv_run.specs.NameBits.{has_assignment, values_are}
 
 -- ---- interfaces
@@ -179,6 +179,27 @@ pub error_other : (bytes : List ℕ) (place : ℕ) (c k : Circuit) (r : Result C
     IsCircuitOfText blif_format (drop place bytes) k → IsOther c k e → IfErr r (IsRefusedPair bytes)
 error_other bytes place c k (Ok x) e is parted of_c of_k other = tt
 error_other bytes place c k (Err d) e is parted of_c of_k other = rw is (other_refused bytes place c k e parted of_c of_k other)
+
+-- a fault of the second text, where the first one is a netlist
+second_refused : (bytes : List ℕ) (place : ℕ) (c : Circuit) (e : CompareError) → split_of bytes ≡ Some place →
+    IsCircuitOfText blif_format (take place bytes) c → IsSecondRefused (drop place bytes) e → IsRefusedPair bytes e
+second_refused bytes place c (Second e) parted of refused = record {
+  place = place;
+  parted = parted;
+  first = faults.text_netlist blif_format (take place bytes) c of;
+  fault = refused;
+}
+second_refused bytes place c Memory parted of refused = tt
+second_refused bytes place c NoSecond parted of refused = absurd refused
+second_refused bytes place c (First e) parted of refused = absurd refused
+second_refused bytes place c DifferentInterface parted of refused = absurd refused
+
+-- which is passed on
+pub error_second : (bytes : List ℕ) (place : ℕ) (c : Circuit) (r : Result Compared CompareError) (e : CompareError) →
+    IsErrAnd r (λ d. d ≡ e) → split_of bytes ≡ Some place → IsCircuitOfText blif_format (take place bytes) c →
+    IsSecondRefused (drop place bytes) e → IfErr r (IsRefusedPair bytes)
+error_second bytes place c (Ok x) e is parted of refused = tt
+error_second bytes place c (Err d) e is parted of refused = rw is (second_refused bytes place c e parted of refused)
 
 -- ---- one answer or one fault
 
