@@ -8,6 +8,6 @@ pub enum Based {
     Base(Circuit),
     /// The basis can't express the operator of the gate that is written by this name.
     Cannot(Vec<u8>),
-    /// Over the basis there could be more than 1,000,000 gates, or 2^31 nodes.
+    /// Over the basis there could be more than 100,000 gates, or 2^31 nodes.
     TooMany,
 }

@@ -10,7 +10,7 @@ pub enum NetOver {
     Over(Net),
     /// The basis can't express the gate of this node.
     Cannot(u32),
-    /// Over the basis it could have more than 1,000,000 gates, or 2^31 nodes.
+    /// Over the basis it could have more than 100,000 gates, or 2^31 nodes.
     TooMany,
 }
 
@@ -21,6 +21,6 @@ pub enum Converted {
     Over(Circuit),
     /// The basis can't express the gate of this node.
     Cannot(Circuit, u32),
-    /// Over the basis it could have more than 1,000,000 gates, or 2^31 nodes.
+    /// Over the basis it could have more than 100,000 gates, or 2^31 nodes.
     TooMany(Circuit),
 }
