@@ -65,8 +65,10 @@ impl<'a, S: Solver, T: Tell> Replier for EquivMatched<'a, S, T> {
             },
             Err(error) => match error {
                 MatchError::Lacks(lack) => Err(Stop::NoAnswer(lacking(lack))),
-                MatchError::Refused(CompareError::Memory) => Err(Stop::NoMemory),
-                MatchError::Refused(fault) => Err(Stop::NoAnswer(refusal_of(fault))),
+                MatchError::Refused(fault) => match fault {
+                    CompareError::Memory => Err(Stop::NoMemory),
+                    other => Err(Stop::NoAnswer(refusal_of(other))),
+                },
             },
         }
     }
