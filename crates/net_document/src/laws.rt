@@ -29,8 +29,8 @@ pub fn laws_of_refusals()
         has driven n ≡ true }
 {}
 
-/// In every format a text that lists a well-formed document has no fault, so the only possible error is out of
-/// memory; any other text has at most one fault.
+/// In every format a text that lists a well-formed document within its limit of gates has no fault, so the only
+/// possible error is out of memory; any other text has at most one fault.
 pub fn netlists_are_read()
     ensures netlist { (f : Format) (bytes : List ℕ) (e : NetError) → ListsWell f → IsNetlist f bytes →
         IsRefusedText f bytes e → e ≡ Memory }
