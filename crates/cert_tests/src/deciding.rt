@@ -98,9 +98,16 @@ fn answer_of<S: Solver>(alloc: Global, memory: &mut SpecCache, header: &Header) 
 /// All operators.
 const ALL: u16 = 65_535;
 
-/// Whether tables have this answer by a solver, other tables then have the same one without a solver, and neither
-/// had one without a solver before.
-fn is_found_again(alloc: Global, first: &[u8], second: &[u8], max: u32, wanted: Answer) -> bool {
+/// Whether tables have the answer `wanted` by a solver, and other tables then have the same one without a solver, which
+/// had the answer `alone` before.
+fn is_found_again(
+    alloc: Global,
+    first: &[u8],
+    second: &[u8],
+    max: u32,
+    wanted: Answer,
+    alone: Answer,
+) -> bool {
     let basis = Basis::new(ALL);
     let Some(header) = header_of(alloc, first, basis, max) else {
         return false;
@@ -112,18 +119,19 @@ fn is_found_again(alloc: Global, first: &[u8], second: &[u8], max: u32, wanted: 
     let before = answer_of::<Silent>(alloc, &mut memory, &turned);
     let found = answer_of::<Cdcl>(alloc, &mut memory, &header);
     let again = answer_of::<Silent>(alloc, &mut memory, &turned);
-    before == Answer::Nothing && found == wanted && again == wanted
+    before == alone && found == wanted && again == wanted
 }
 
-/// Tables, the same tables with their inputs permuted, the greatest number of steps, and the answer. Fewer than
-/// five steps are enumerated without a search, and of more or fewer than three outputs more may be refuted so.
-const PERMUTED: &[(&str, &[u8], &[u8], u32, Answer)] = &[
+/// Tables, the same tables with their inputs permuted, the greatest number of steps, the answer, and that without a
+/// solver. Fewer than five steps are enumerated without a search, and up to seven may be refuted so.
+const PERMUTED: &[(&str, &[u8], &[u8], u32, Answer, Answer)] = &[
     (
         "a full adder beside an AND: five steps",
         b"inputs 3\n01101001\n00010111\n00000011\n",
         b"inputs 3\n01101001\n00010111\n00000101\n",
         5,
         Answer::Shorter,
+        Answer::Nothing,
     ),
     (
         "a full adder beside an AND of three: no five steps",
@@ -131,14 +139,15 @@ const PERMUTED: &[(&str, &[u8], &[u8], u32, Answer)] = &[
         b"inputs 3\n01101001\n00010111\n00000100\n",
         5,
         Answer::Least,
+        Answer::Least,
     ),
 ];
 
 #[test]
 fn decided_specifications_are_found_in_any_order_of_inputs(rt: HostRuntime) {
-    for &(name, first, second, max, wanted) in PERMUTED {
+    for &(name, first, second, max, wanted, alone) in PERMUTED {
         assert!(rt;
-            is_found_again(rt.alloc(), first, second, max, wanted),
+            is_found_again(rt.alloc(), first, second, max, wanted, alone),
             "{name}"
         );
     }
