@@ -1,6 +1,5 @@
 //! Reading AIGER files (the AIGER 1.9 report). `read_aiger` returns the circuit of a text exactly if the text lists a
-//! well-formed document within the limit of gates, and else the first fault. The definitions are those
-//! of `net_theory` and `aiger_text`.
+//! well-formed document, and else the first fault. The definitions are those of `net_theory` and `aiger_text`.
 //!
 //! The main theorem: the circuit is equivalent to the document that its text lists, with as many gates as the
 //! document costs: one for each AND gate, and one for each variable whose complement has a table of its own.

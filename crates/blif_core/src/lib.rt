@@ -1,7 +1,6 @@
 //! Reading and writing BLIF netlists (the Berkeley BLIF manual). `read_blif` returns the circuit of a text
-//! exactly if the text lists a well-formed document within the limit of gates, and else the first fault;
-//! `document_of` is the document of a circuit, and `write_document` appends its text. The definitions are
-//! those of `net_theory` and `blif_text`.
+//! exactly if the text lists a well-formed document, and else the first fault; `document_of` is the document of a
+//! circuit, and `write_document` appends its text. The definitions are those of `net_theory` and `blif_text`.
 //!
 //! The main theorem: the circuit is equivalent to the document that its text lists, with as many gates as the
 //! document costs.

@@ -36,7 +36,7 @@ pub fn read_netlist_up_to(
 }
 
 /// The circuit of a text of at most 100,000 gates in a format, or the error of the format's reader. For a text that
-/// lists a well-formed document within that limit the only possible error is out of memory.
+/// lists a well-formed document the only possible error is out of memory.
 pub fn read_netlist(alloc: Global, format: NetFormat, bytes: &[u8]) -> Result<Circuit, NetError>
     requires { length bytes.now < 2 ^ 31 }
     ensures circuit { IfOk result (IsCircuitOfText (format_of format) bytes.now) }

@@ -9,8 +9,8 @@ use Rattle.tt_core.specs.Words.{Words}
 use Rattle.bound_core.specs.Counts.{count_below}
 use Rattle.step_core.specs.Steps.{word_in, is_missing}
 
--- Of the places of the set, `place` + 1 is essential for output `output` + 1: two rows have equal values at all others,
--- and different specified values of the output.
+-- Of the places of the set, `place` + 1 is essential for output `output` + 1: two rows have equal values at all others, and
+-- different specified values of the output.
 -- Example: with the set of both inputs each of them is essential for the table 0110.
 pub record IsEssential (w : Words) (steps : List Step) (reads : ℕ → Bool) (place output : ℕ) : Type 0 where
   pub row : ℕ
@@ -23,8 +23,8 @@ pub record IsEssential (w : Words) (steps : List Step) (reads : ℕ → Bool) (p
   pub other_care : digit (slice_index w.care output) other ≡ true
   pub differ : digit (slice_index w.on output) other ≡ digit (slice_index w.on output) row → ⊥
 
--- A colouring of places and of outputs, such as that by components: a missing output has the colour of each place of
--- the set that is essential for it.
+-- A colouring of places and of outputs, such as that by components: a missing output has the colour of each place of the
+-- set that is essential for it.
 pub record IsColouring (w : Words) (steps : List Step) (reads : ℕ → Bool) (of_place of_output : ℕ → ℕ) : Type 0 where
   pub each : (place output : ℕ) → place < w.n + length steps → output < length w.on → reads place ≡ true →
       is_missing w steps output ≡ true → IsEssential w steps reads place output → of_output output ≡ of_place place
