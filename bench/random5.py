@@ -1,8 +1,9 @@
 #!/usr/bin/env python3
-"""random5.py PROGRAM [--effort N ..] [--count N] [--whole N]: random functions of five inputs by `synth --method auto`.
+"""random5.py PROGRAM [--stream SEED] [--effort N ..] [--count N] [--whole N]: random functions of five inputs by `synth`.
 
-The functions are the first N (100) of those whose tables are `random.Random(k).getrandbits(32)` for k = 1, 2 and so on. For
-each effort (1) walks alone look for a chain, since the budget of each formula is one learnt clause: the mean of its steps,
+The functions are the first N (100) of those whose tables are `random.Random(k).getrandbits(32)` for k = 1, 2 and so on, or
+with --stream those whose rows are drawn by `choice('01')` of one `random.Random(SEED)`, table after table. The method is
+`auto`. For each effort (1) walks alone look for a chain, since the budget of each formula is one learnt clause: the mean of its steps,
 how many functions need how many, and the user seconds for each function. With --whole the first N of the functions are
 asked with the default budget, a row for each: verdict, user seconds, bytes of the certificate, and the verdict and the
 seconds of `recheck`."""
@@ -15,8 +16,11 @@ import sys
 from usage import usage
 
 
+STREAM = []
+
+
 def table(number):
-    return f'{random.Random(number).getrandbits(32):032b}'
+    return STREAM[number - 1] if STREAM else f'{random.Random(number).getrandbits(32):032b}'
 
 
 def run(words, text):
@@ -66,6 +70,9 @@ def main():
             count = int(value)
         elif word == '--whole':
             asked = int(value)
+        elif word == '--stream':
+            drawn = random.Random(int(value))
+            STREAM.extend(''.join(drawn.choice('01') for _ in range(32)) for _ in range(1000))
     if efforts or not asked:
         print(f'| {count} functions | mean | steps | for each |\n|---|---|---|---|', flush=True)
         for effort in efforts or ['1']:
