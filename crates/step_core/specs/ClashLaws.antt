@@ -57,13 +57,13 @@ alike_skip n steps reads row same before member alike is e = record {
   ];
 }
 
-differ_not : (x y : Bool) → differ x (not y) ≡ true → x ≡ y
+pub differ_not : (x y : Bool) → differ x (not y) ≡ true → x ≡ y
 differ_not true true e = refl
 differ_not true false e = absurd cc
 differ_not false true e = absurd cc
 differ_not false false e = refl
 
-fill_bit : (b : Bool) (fill t : ℕ) → t < 64 → (b ≡ true → fill ≡ 0xffff_ffff_ffff_ffff) → (b ≡ false → fill ≡ 0) → digit fill t ≡ b
+pub fill_bit : (b : Bool) (fill t : ℕ) → t < 64 → (b ≡ true → fill ≡ 0xffff_ffff_ffff_ffff) → (b ≡ false → fill ≡ 0) → digit fill t ≡ b
 fill_bit true fill t low full empty = ap (λ (x : ℕ). digit x t) (full refl) ∙ digit_spread true t low
 fill_bit false fill t low full empty = ap (λ (x : ℕ). digit x t) (empty refl) ∙ digit_spread false t low
 

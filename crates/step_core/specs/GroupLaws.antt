@@ -62,11 +62,11 @@ pub none_touched : (w : Words) (steps : List Step) (reads : ℕ → Bool) (place
 none_touched w steps reads place = record { each = λ o e. absurd (both_ways (digit 0 o) (digit_zero o) e) }
 
 -- one more row
-pub more_touched : (w : Words) (n : ℕ) (steps : List Step) (reads touched more : ℕ → Bool) (place others missing row same places : ℕ) →
+pub more_touched : (w : Words) (n : ℕ) (steps : List Step) (reads touched more : ℕ → Bool) (place missing row same places : ℕ) →
     n ≡ w.n → places ≡ n + length steps → row < 64 → IsMissingMask w steps missing →
-    ((i : ℕ) → digit others i ≡ with_own reads place false i) → AreAlikeRows n steps (digit others) row same places →
+    AreAlikeRows n steps (with_own reads place false) row same places →
     AreTouched w steps reads place touched → AreClashing w (digit missing) touched row same more → AreTouched w steps reads place more
-more_touched w n steps reads touched more place others missing row same places inputs count low mask put alike are clashing = record {
+more_touched w n steps reads touched more place missing row same places inputs count low mask alike are clashing = record {
   each = λ o e. elim (clashing.each o e) [
     | inl old ↦ are.each o old
     | inr new ↦ record {
@@ -84,7 +84,7 @@ more_touched w n steps reads touched more place others missing row same places i
       below = low;
       other_below = clash.below;
       alike = λ i inside read apart. subst (λ (x : ℕ). digit (word_in x steps (i + 1)) clash.other ≡ digit (word_in x steps (i + 1)) row) inputs
-          (alike.each clash.other clash.below clash.inside i (omega (arith, inside, count, inputs)) (put i ∙ other_has reads place i false apart ∙ read));
+          (alike.each clash.other clash.below clash.inside i (omega (arith, inside, count, inputs)) (other_has reads place i false apart ∙ read));
       care = clash.care;
       other_care = clash.other_care;
       differ = clash.differ;
@@ -119,7 +119,7 @@ some_digit rows k low some = elim (cases_Bool (some_below (digit rows) k)) [
       | inr past ↦ bit_at_above rows k t low past
     ]
 
-or_parts : (a b i : ℕ) → digit (bit_or a b) i ≡ true → (digit a i ≡ true) ⊎ (digit b i ≡ true)
+pub or_parts : (a b i : ℕ) → digit (bit_or a b) i ≡ true → (digit a i ≡ true) ⊎ (digit b i ≡ true)
 or_parts a b i e = elim (cases_Bool (digit a i)) [
   | inl first ↦ inl first
   | inr not_first ↦ elim (cases_Bool (digit b i)) [

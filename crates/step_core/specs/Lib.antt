@@ -28,6 +28,7 @@ pub mod ShareLaws
 pub mod MaskLaws
 pub mod ClashLaws
 pub mod GroupLaws
+pub mod NearLaws
 pub mod RefutingLaws
 pub mod LiveChainLaws
 pub mod RefutedLaws

@@ -11,7 +11,7 @@ use crate::stack::StepStack;
 use tt_core::Spec;
 
 /// The word whose bits are all `bit`.
-fn filled(bit: bool) -> u64
+pub(crate) fn filled(bit: bool) -> u64
     ensures yes { bit ≡ true → result ≡ 0xffff_ffff_ffff_ffff }
     ensures no { bit ≡ false → result ≡ 0 }
 {
@@ -64,7 +64,7 @@ pub(crate) fn has_clash(spec: &Spec, output: u32, row: u32, same: u64) -> bool
 
 /// Whether a missing output specifies a value on the row and the other value on one of the rows `same`.
 #[tactic(auto, using(crate::specs::ClashLaws::clashing))]
-fn have_clash(spec: &Spec, missing: u32, row: u32, same: u64) -> bool
+pub(crate) fn have_clash(spec: &Spec, missing: u32, row: u32, same: u64) -> bool
     requires row { row < 64 }
     ensures { result ≡ true → HaveClash spec.now (digit missing) row same }
 {

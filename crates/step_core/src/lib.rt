@@ -44,6 +44,7 @@ mod determined;
 mod enumerate;
 mod least_chains;
 mod masks;
+mod nearby;
 mod outs;
 mod pruning;
 mod refuted;
@@ -51,6 +52,7 @@ mod refuting;
 mod rules;
 mod shares;
 mod stack;
+mod touches;
 mod waits;
 mod words;
 

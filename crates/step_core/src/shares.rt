@@ -1,66 +1,18 @@
 //! Whether the missing outputs fall into enough groups. Missing outputs are linked where one of the places that
 //! further steps read is essential for both. The steps that give a group of linked outputs are joined, and `k` joined
 //! steps read at most `k` + 1 of the places. So few steps that read many places need many groups.
-ghost use Rattle.std.specs.Prelude.{◌≡◌, ◌+◌, ◌<◌, false, length};
+ghost use Rattle.std.specs.Prelude.{◌≡◌, ◌<◌, false};
 ghost use Rattle.chain_theory.specs.Operator.{digit, Basis as Operators};
 ghost use Rattle.step_core.specs.Reads.{IsMissingMask, NoneReading};
 ghost use Rattle.step_core.specs.Shares.{HasFewGroups};
-ghost use Rattle.step_core.specs.GroupLaws.{AreClashing, AreTouched, IsMerged, IsGrown, IsGroup};
+ghost use Rattle.step_core.specs.GroupLaws.{IsMerged, IsGrown, IsGroup};
+ghost use Rattle.step_core.specs.NearLaws.{AreAllTouched};
+ghost use Rattle.tt_core.specs.Words.{Words};
 
-use crate::determined::{alike, cared_for, has_clash, is_one};
 use crate::masks::{count, has, put};
 use crate::stack::StepStack;
+use crate::touches::touches_of;
 use tt_core::Spec;
-
-/// The set `touched`, with each missing output that specifies a value on the row and the other value on one of the rows
-/// `same`.
-#[tactic(auto, using(crate::specs::GroupLaws::touching))]
-fn with_clashing(spec: &Spec, missing: u32, touched: u32, row: u32, same: u64) -> u32
-    requires row { row < 64 }
-    ensures { AreClashing spec.now (digit missing) (digit touched) row same (digit result) }
-{
-    // for the prover: brings in the invariant of the specification
-    let _inputs = spec.n();
-    let mut wider = touched;
-    for output in 0..spec.outputs() {
-        if !has(missing, output) {
-            continue;
-        }
-        if !has_clash(spec, output, row, same) {
-            continue;
-        }
-        wider = put(wider, output, true);
-    }
-    wider
-}
-
-/// The missing outputs that the place `before` + 1 is essential for, of the places of the set.
-#[tactic(auto, using(crate::specs::GroupLaws::touching))]
-fn touched_by(spec: &Spec, stack: &StepStack, reads: u32, missing: u32, before: u32) -> u32
-    requires inputs { stack.now.n ≡ spec.now.n }
-    requires missing { IsMissingMask spec.now stack.now.steps missing }
-    requires place { before < stack.now.n + length stack.now.steps }
-    ensures { AreTouched spec.now stack.now.steps (digit reads) before (digit result) }
-{
-    // for the prover: bring in the invariants
-    let _inputs = spec.n();
-    let _steps = stack.len();
-    let others = put(reads, before, false);
-    let mut rows = cared_for(spec, missing);
-    let mut touched = 0u32;
-    for row in 0..64u32 {
-        if !is_one(rows, row) {
-            continue;
-        }
-        if touched == missing {
-            return touched;
-        }
-        let same = alike(stack, others, row);
-        touched = with_clashing(spec, missing, touched, row, same);
-        rows ^= rows & same;
-    }
-    touched
-}
 
 /// The group, with the outputs of a place that touches one of it.
 fn merged(group: u32, touched: u32) -> u32
@@ -73,11 +25,9 @@ fn merged(group: u32, touched: u32) -> u32
 }
 
 /// The group, with the outputs that the places of the set link with it, one place after the other.
-#[tactic(auto, using(crate::specs::GroupLaws::grouping))]
-fn grown(spec: &Spec, stack: &StepStack, reads: u32, missing: u32, group: u32) -> u32
-    requires inputs { stack.now.n ≡ spec.now.n }
-    requires missing { IsMissingMask spec.now stack.now.steps missing }
-    ensures { IsGrown spec.now stack.now.steps (digit reads) (digit group) (digit result) }
+fn grown(stack: &StepStack, touches: &[u32; 16], reads: u32, missing: u32, group: u32) -> u32
+    ensures { (w : Words) → stack.now.n ≡ w.n → AreAllTouched w stack.now.steps (digit reads) touches.now →
+        IsGrown w stack.now.steps (digit reads) (digit group) (digit result) }
 {
     let mut wider = group;
     for before in 0..stack.n() + stack.len() {
@@ -87,23 +37,29 @@ fn grown(spec: &Spec, stack: &StepStack, reads: u32, missing: u32, group: u32) -
         if wider == missing {
             return wider;
         }
-        let touched = touched_by(spec, stack, reads, missing, before);
-        wider = merged(wider, touched);
+        wider = merged(wider, touches[before as usize]);
     }
     wider
 }
 
 /// The outputs that are linked with the given one.
 #[tactic(auto, using(crate::specs::GroupLaws::grouping))]
-fn group_of(spec: &Spec, stack: &StepStack, reads: u32, missing: u32, output: u32) -> u32
+fn group_of(
+    spec: &Spec,
+    stack: &StepStack,
+    touches: &[u32; 16],
+    reads: u32,
+    missing: u32,
+    output: u32,
+) -> u32
     requires inputs { stack.now.n ≡ spec.now.n }
-    requires missing { IsMissingMask spec.now stack.now.steps missing }
+    requires touches { AreAllTouched spec.now stack.now.steps (digit reads) touches.now }
     requires output { output < 32 }
     ensures { IsGroup spec.now stack.now.steps (digit reads) output (digit result) }
 {
     let mut group = put(0, output, true);
     for _round in 0..spec.outputs() {
-        let wider = grown(spec, stack, reads, missing, group);
+        let wider = grown(stack, touches, reads, missing, group);
         if wider == group {
             return group;
         }
@@ -121,6 +77,7 @@ fn has_groups(spec: &Spec, stack: &StepStack, reads: u32, missing: u32, bound: u
 {
     // for the prover: brings in the invariant of the specification
     let _inputs = spec.n();
+    let touches = touches_of(spec, stack, reads, missing);
     let mut starts = 0u32;
     let mut covered = 0u32;
     for output in 0..spec.outputs() {
@@ -134,7 +91,7 @@ fn has_groups(spec: &Spec, stack: &StepStack, reads: u32, missing: u32, bound: u
         if count(starts, spec.outputs()) >= bound {
             return true;
         }
-        covered |= group_of(spec, stack, reads, missing, output);
+        covered |= group_of(spec, stack, &touches, reads, missing, output);
     }
     count(starts, spec.outputs()) >= bound
 }

@@ -2,7 +2,7 @@
 use Rattle.chain_theory.specs.Operator.{digit}
 use Rattle.std.proofs.Common.{arith}
 use Rattle.step_core.specs.GroupLaws.{more_clashing}
-use Rattle.step_core.proofs.shares.with_clashing.Goals as goal
+use Rattle.step_core.proofs.touches.with_clashing.Goals as goal
 
 pub loop-output-preserved : goal.loop-output-preserved
 loop-output-preserved c = more_clashing c.args.spec.now (digit c.args.missing) (digit c.args.touched)
