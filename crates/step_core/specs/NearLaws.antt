@@ -1,5 +1,5 @@
 -- The rows near a given one, and the outputs that each place of a set is essential for.
-use Rattle.std.proofs.Common.{◌≡◌, ℕ, ◌+◌, ◌<◌, ◌⊎◌, true, false, Bool, not, List, length, refl, sym, ap, ◌∙◌, subst, arith, inl, inr}
+use Rattle.std.proofs.Common.{◌≡◌, ℕ, ◌+◌, ◌<◌, ◌⊎◌, true, false, Bool, not, List, length, sym, ap, ◌∙◌, subst, arith, inl, inr}
 use Rattle.std.specs.Prelude.{slice_index, slice_set, replicate, bit_and, bit_or, bit_xor}
 use Rattle.std.proofs.lemmas.Bool.{cases_lt, cases_eq, and_parts, both_ways}
 use Rattle.std.proofs.lemmas.Grind.{common_steps}
@@ -75,7 +75,7 @@ nearby_more n steps reads row same near before word fill made made_near one are 
   alike = alike_more n steps reads row same before word fill made one are.alike is one_is full empty e;
   each = λ t low in_near i j i_low j_low read_i read_j apart.
       let parts = and_parts (digit near t) (digit (bit_or same (bit_xor word fill)) t)
-          (sym (ap (λ (x : ℕ). digit x t) e_near ∙ digit_and near (bit_or same (bit_xor word fill)) t) ∙ in_near) in
+      (sym (ap (λ (x : ℕ). digit x t) e_near ∙ digit_and near (bit_or same (bit_xor word fill)) t) ∙ in_near) in
       elim (which i before i_low) [
         | inl i_less ↦ elim (which j before j_low) [
           | inl j_less ↦ are.each t low parts.0 i j i_less j_less read_i read_j apart
@@ -118,7 +118,7 @@ all_but n steps reads row same near before word fill made places one are inside 
     | inl here ↦ absurd (both_ways (with_own reads before false i) (own_has reads before i false here) member)
     | inr other ↦
         (at t low (or_parts same (bit_and near (bit_xor word fill)) t (sym (ap (λ (x : ℕ). digit x t) e) ∙ in_made)) i below
-            (sym (other_has reads before i false other) ∙ member) other).same
+        (sym (other_has reads before i false other) ∙ member) other).same
   ];
 }
   where

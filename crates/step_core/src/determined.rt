@@ -28,7 +28,7 @@ pub(crate) fn is_one(word: u64, row: u32) -> bool
 
 /// The rows on which all places of the set have the values of the given row.
 #[tactic(auto, using(crate::specs::ClashLaws::clashing))]
-pub(crate) fn alike(stack: &StepStack, reads: u32, row: u32) -> u64
+fn alike(stack: &StepStack, reads: u32, row: u32) -> u64
     requires { row < 64 }
     ensures { AreAlikeRows stack.now.n stack.now.steps (digit reads) row result (stack.now.n + length stack.now.steps) }
 {

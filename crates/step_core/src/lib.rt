@@ -26,7 +26,8 @@
 //! - The missing outputs aren't functions of the set: two rows agree on all its places, and an output specifies
 //!   different values on them (`determined`).
 //! - The missing outputs fall into fewer groups than the set has places more than there are further steps. Two of them
-//!   are linked where a place of the set is essential for both (`shares`).
+//!   are linked where a place of the set is essential for both (`shares`). Which outputs each place is essential for is
+//!   computed once, row by row (`touches`), from the rows that differ at one place of the set at most (`nearby`).
 //!
 //! It counts its tests, and refutes nothing when it runs out of them.
 //!

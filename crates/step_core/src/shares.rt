@@ -1,6 +1,7 @@
 //! Whether the missing outputs fall into enough groups. Missing outputs are linked where one of the places that
 //! further steps read is essential for both. The steps that give a group of linked outputs are joined, and `k` joined
-//! steps read at most `k` + 1 of the places. So few steps that read many places need many groups.
+//! steps read at most `k` + 1 of the places. So few steps that read many places need many groups. What each place is
+//! essential for is found first (`touches`).
 ghost use Rattle.std.specs.Prelude.{◌≡◌, ◌<◌, false};
 ghost use Rattle.chain_theory.specs.Operator.{digit, Basis as Operators};
 ghost use Rattle.step_core.specs.Reads.{IsMissingMask, NoneReading};

@@ -1,6 +1,6 @@
 //! The missing outputs that each place of a set is essential for: on two rows that agree at all other places of the set
 //! the output has different specified values. Each row is compared with the rows near it.
-ghost use Rattle.std.specs.Prelude.{◌≡◌, ◌+◌, ◌<◌, true, false, length};
+ghost use Rattle.std.specs.Prelude.{◌≡◌, ◌+◌, ◌<◌, length};
 ghost use Rattle.chain_theory.specs.Operator.{digit};
 ghost use Rattle.step_core.specs.Reads.{IsMissingMask};
 ghost use Rattle.step_core.specs.GroupLaws.{AreClashing};
